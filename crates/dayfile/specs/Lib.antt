@@ -1,0 +1,11 @@
+pub mod Bytes
+pub mod Faults
+pub mod Records
+pub mod Layout
+pub mod Owners
+pub mod Files
+pub mod Blocks
+pub mod Widths
+pub mod Writing
+pub mod Rules
+pub mod Days

@@ -1,0 +1,37 @@
+//! The day file: one operating day's participants and Resources in blocks of 512 bytes.
+mod admitted;
+mod before;
+mod block;
+mod bytes;
+mod day;
+mod fault;
+mod file;
+mod judge;
+mod layout;
+mod owners;
+mod parts;
+mod read;
+mod record;
+mod write;
+
+pub use admitted::write_day;
+pub use block::Block;
+pub use day::AdmittedDay;
+pub use fault::Fault;
+pub use fault::Layer;
+pub use fault::Place;
+pub use file::BLOCK;
+pub use file::LONGEST;
+pub use file::admit;
+pub use file::read_block;
+pub use record::DayRecord;
+pub use record::Event;
+pub use record::Flag;
+pub use record::Load;
+pub use record::Owner;
+pub use record::ParticipantRecord;
+pub use record::RealTimeHour;
+pub use record::RealTimeRecord;
+pub use record::Record;
+pub use record::ResourceRecord;
+pub use write::write_record;
