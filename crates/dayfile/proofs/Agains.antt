@@ -2,16 +2,13 @@
 use mathlib.Core.Path.{_≡_, refl, sym, ap, _∙_, subst}
 use mathlib.Core.Logic.{_⊎_, inl, inr}
 use mathlib.Core.List.{List, [], _∷_, _++_}
-use mathlib.Core.Bool.{Bool, true, false, cond}
-use Prim.Native.Nat.{ℕ, zero, suc, _+_, _-_, _*_, _/_, _%_, _^_, _<_, _≤_}
+use Prim.Native.Nat.{ℕ, zero, suc, _+_, _*_, _^_, _<_, _≤_}
 use native.Mathlib.Omega.{arith}
-use native.Mathlib.Nat.{add-zero}
-use lib.Dec.{eqb, leb}
-use lib.IntN.{ℤ}
+use lib.Dec.{leb}
 use lib.ListN.{length, getD, take, drop}
 use lib.Seq.{take-add}
 use mir.Syntax.{w32}
-use mir.Val.{toZ, ofZ, SFits}
+use mir.Val.{SFits}
 use borrow.Author.Gap.{read-sfits}
 use Rattle.std.specs.shelf.Lists.{All, joined}
 use Rattle.std.proofs.shelf.Lists.{drop-drop, length-drop, length-take-le, length-replicate, length-take, take-all, getD-past, getD-take, getD-drop, getD-replicate, ext-getD}
@@ -19,8 +16,8 @@ use Rattle.std.proofs.shelf.Signed.{ofZ-toZ}
 use Rattle.std.proofs.shelf.Tests.{cases-lt, and-parts, eqb-true, leb-true}
 use Rattle.std.specs.declared.option.Option.the-variants.{None}
 use Rattle.dayfile.specs.declared.layout.Entry.{Entry}
-use Rattle.dayfile.specs.declared.layout.Limits.the-variants.{Whole, Unnamed}
-use Rattle.dayfile.specs.Bytes.{number, digits, value, zeros, each}
+use Rattle.dayfile.specs.declared.layout.Limits.the-variants.{Whole}
+use Rattle.dayfile.specs.Bytes.{digits, value, zeros, each}
 use Rattle.dayfile.specs.Layout.{unnamed, fields, entry-fault, first-fault, day-table, participant-table, resource-table, real-time-table}
 use Rattle.dayfile.specs.Records.{part, word-bytes, word-from, signed-bytes, signed-from, flag-number, flag-named, flag-bytes, flag-from, event-number, event-named, event-bytes, event-from, load-bytes, load-from, owner-bytes, owner-from, hour-bytes, hour-from, day-of, participant-of, resource-of, real-time-of, day-body, participant-body, resource-body, real-time-body}
 use Rattle.dayfile.specs.declared.record.Record.the-variants.{Day, Participant, Resource, RealTime}

@@ -1,7 +1,7 @@
 -- What is written reads back: each part, each row of parts, each kind of record.
-use mathlib.Core.Path.{_≡_, refl, sym, ap, _∙_, subst}
+use mathlib.Core.Path.{_≡_, refl, sym, ap, _∙_}
 use mathlib.Core.List.{List, [], _∷_, _++_}
-use Prim.Native.Nat.{ℕ, zero, suc, _+_, _-_, _*_, _/_, _%_, _^_, _<_, _≤_}
+use Prim.Native.Nat.{ℕ, _+_, _*_, _%_, _^_, _<_}
 use native.Mathlib.Omega.{arith}
 use lib.IntN.{ℤ}
 use lib.ListN.{length, getD, take, drop}
@@ -140,6 +140,24 @@ past-row write w n k long e xs rest j l =
     sym (drop-drop j k (joined write xs ++ rest)) ∙ ap (drop j) (drop-at (joined write xs) rest k m)
 
 -- THE RECORDS, with any bytes behind them
+abbrev pub day-with : DayRecord → List ℕ → List ℕ
+day-with d rest = 68 ∷ 0 ∷ 0 ∷ 0 ∷ (digits 4 (d .date) ++ (digits 2 (d .version) ++ (digits 1 (d .participants) ++ (digits 1 (d .resources) ++ rest))))
+
+abbrev pub participant-with : ParticipantRecord → List ℕ → List ℕ
+participant-with p rest =
+    80 ∷ 0 ∷ 0 ∷ 0 ∷ (digits 4 (p .number) ++ (joined load-bytes (p .loads) ++ (digits 4 (p .«network_load») ++ (digits 4 (p .«scr_weight») ++ rest))))
+
+abbrev pub resource-with : ResourceRecord → List ℕ → List ℕ
+resource-with g rest =
+    71 ∷ (digits 1 (g .region) ++ (digits 1 (g .«minimum_run_hours») ++ (digits 1 (g .«minimum_down_hours») ++ (digits 4 (g .number)
+    ++ (digits 4 (g .«start_up_cents») ++ (digits 4 (g .«no_load_cents») ++ (joined signed-bytes (g .prices)
+    ++ (digits 1 (g .«hours_on_line») ++ (digits 1 (g .«owner_count») ++ (0 ∷ 0 ∷ (digits 4 (g .«self_scheduled») ++ (joined owner-bytes (g .owners)
+    ++ (joined word-bytes (g .«cleared_kwh») ++ (joined signed-bytes (g .lmps) ++ (joined flag-bytes (g .flags) ++ rest)))))))))))))))
+
+abbrev pub real-time-with : RealTimeRecord → List ℕ → List ℕ
+real-time-with r rest =
+    82 ∷ 0 ∷ 0 ∷ 0 ∷ (digits 4 (r .number) ++ (digits 4 (r .«economic_minimum_kwh») ++ (joined hour-bytes (r .hours) ++ (joined event-bytes (r .events) ++ (joined flag-bytes (r .flags) ++ rest)))))
+
 same-day : (d : DayRecord) (a b c e : ℕ) → a ≡ d .date → b ≡ d .version → c ≡ d .participants → e ≡ d .resources
     → record { date = a; version = b; participants = c; resources = e } ≡ d
 same-day d a b c e p q r s = simp (p, q, r, s)
@@ -148,18 +166,20 @@ same-day d a b c e p q r s = simp (p, q, r, s)
 byte-back : (n : ℕ) → n < 256 → n % 256 ≡ n
 byte-back n h = omega arith
 
-pub day-back : (d : DayRecord) (rest : List ℕ) → Fitting (Day d)
-    → day-of (68 ∷ 0 ∷ 0 ∷ 0 ∷ (digits 4 (d .date) ++ (digits 2 (d .version) ++ (digits 1 (d .participants) ++ (digits 1 (d .resources) ++ rest))))) ≡ d
+pub day-back : (d : DayRecord) (rest : List ℕ) → Fitting (Day d) → day-of (day-with d rest) ≡ d
 unfolding digits
 day-back d rest f =
     same-day d _ _ _ _ (number-digits 4 (d .date) (f .0)) (number-digits 2 (d .version) (f .1)) (byte-back (d .participants) (f .2)) (byte-back (d .resources) (f .3))
+
+pub day-rest : (d : DayRecord) (rest : List ℕ) → drop 12 (day-with d rest) ≡ rest
+unfolding digits
+day-rest d rest = refl
 
 same-participant : (p : ParticipantRecord) (a : ℕ) (ls : List Load) (b c : ℕ) → a ≡ p .number → ls ≡ p .loads → b ≡ p .«network_load» → c ≡ p .«scr_weight»
     → record { number = a; loads = ls; «network_load» = b; «scr_weight» = c } ≡ p
 same-participant p a ls b c e f g h = simp (e, f, g, h)
 
-pub participant-back : (p : ParticipantRecord) (rest : List ℕ) → Fitting (Participant p)
-    → participant-of (80 ∷ 0 ∷ 0 ∷ 0 ∷ (digits 4 (p .number) ++ (joined load-bytes (p .loads) ++ (digits 4 (p .«network_load») ++ (digits 4 (p .«scr_weight») ++ rest))))) ≡ p
+pub participant-back : (p : ParticipantRecord) (rest : List ℕ) → Fitting (Participant p) → participant-of (participant-with p rest) ≡ p
 unfolding digits
 participant-back p rest f =
     let after = digits 4 (p .«network_load») ++ (digits 4 (p .«scr_weight») ++ rest) in
@@ -170,25 +190,49 @@ participant-back p rest f =
       (ap (λ t. value 0 4 (take 8 t)) past ∙ number-digits 4 (p .«network_load») (f .3))
       (ap (λ t. value 4 4 (take 8 t)) past ∙ number-digits 4 (p .«scr_weight») (f .4))
 
+pub participant-rest : (p : ParticipantRecord) (rest : List ℕ) → Fitting (Participant p) → drop 112 (participant-with p rest) ≡ rest
+unfolding digits
+participant-rest p rest f = past-row load-bytes 12 8 96 load-long refl (p .loads) (digits 4 (p .«network_load») ++ (digits 4 (p .«scr_weight») ++ rest)) 8 (f .1)
+
 same-real-time : (r : RealTimeRecord) (a b : ℕ) (hs : List RealTimeHour) (es : List Event) (fs : List Flag)
     → a ≡ r .number → b ≡ r .«economic_minimum_kwh» → hs ≡ r .hours → es ≡ r .events → fs ≡ r .flags
     → record { number = a; «economic_minimum_kwh» = b; hours = hs; events = es; flags = fs } ≡ r
 same-real-time r a b hs es fs e f g h i = simp (e, f, g, h, i)
 
-pub real-time-back : (r : RealTimeRecord) (rest : List ℕ) → Fitting (RealTime r)
-    → real-time-of (82 ∷ 0 ∷ 0 ∷ 0 ∷ (digits 4 (r .number) ++ (digits 4 (r .«economic_minimum_kwh») ++ (joined hour-bytes (r .hours) ++ (joined event-bytes (r .events) ++ (joined flag-bytes (r .flags) ++ rest)))))) ≡ r
-unfolding digits
-real-time-back r rest f =
-    let after-events = joined flag-bytes (r .flags) ++ rest in
-    let after-hours = joined event-bytes (r .events) ++ after-events in
-    let past-hours = λ (j : ℕ). past-row hour-bytes 12 24 288 hour-long refl (r .hours) after-hours j (f .2) in
-    let past-events = past-row event-bytes 1 24 24 event-long refl (r .events) after-events 0 (f .4) in
-    same-real-time r _ _ _ _ _
-      (number-digits 4 (r .number) (f .0))
-      (number-digits 4 (r .«economic_minimum_kwh») (f .1))
-      (hours-back (r .hours) after-hours (f .2) (f .3))
-      (ap (λ t. each event-from 1 24 (take 24 t)) (past-hours 0) ∙ events-back (r .events) after-events (f .4))
-      (ap (λ t. each flag-from 1 24 (take 24 t)) (past-hours 24 ∙ past-events) ∙ flags-back (r .flags) rest (f .5))
+module _ (r : RealTimeRecord) (rest : List ℕ) (f : Fitting (RealTime r)) where
+  abbrev after-events : List ℕ
+  after-events = joined flag-bytes (r .flags) ++ rest
+
+  abbrev after-hours : List ℕ
+  after-hours = joined event-bytes (r .events) ++ after-events
+
+  past-hours : (j : ℕ) → drop (288 + j) (joined hour-bytes (r .hours) ++ after-hours) ≡ drop j after-hours
+  past-hours j = past-row hour-bytes 12 24 288 hour-long refl (r .hours) after-hours j (f .2)
+
+  past-events : (j : ℕ) → drop (24 + j) after-hours ≡ drop j after-events
+  past-events j = past-row event-bytes 1 24 24 event-long refl (r .events) after-events j (f .4)
+
+  pub real-time-events : drop 300 (real-time-with r rest) ≡ after-hours
+  unfolding digits
+  real-time-events = past-hours 0
+
+  pub real-time-flags : drop 324 (real-time-with r rest) ≡ after-events
+  unfolding digits
+  real-time-flags = past-hours 24 ∙ past-events 0
+
+  pub real-time-rest : drop 348 (real-time-with r rest) ≡ rest
+  unfolding digits
+  real-time-rest = past-hours 48 ∙ past-events 24 ∙ past-row flag-bytes 1 24 24 flag-long refl (r .flags) rest 0 (f .5)
+
+  pub real-time-back : real-time-of (real-time-with r rest) ≡ r
+  unfolding digits
+  real-time-back =
+      same-real-time r _ _ _ _ _
+        (number-digits 4 (r .number) (f .0))
+        (number-digits 4 (r .«economic_minimum_kwh») (f .1))
+        (hours-back (r .hours) after-hours (f .2) (f .3))
+        (ap (λ t. each event-from 1 24 (take 24 t)) real-time-events ∙ events-back (r .events) after-events (f .4))
+        (ap (λ t. each flag-from 1 24 (take 24 t)) real-time-flags ∙ flags-back (r .flags) rest (f .5))
 
 same-resource : (g : ResourceRecord) (a b c d e f : ℕ) (ps : List ℤ) (h i j : ℕ) (os : List Owner) (cs : List ℕ) (ls : List ℤ) (fs : List Flag)
     → a ≡ g .region → b ≡ g .«minimum_run_hours» → c ≡ g .«minimum_down_hours» → d ≡ g .number → e ≡ g .«start_up_cents» → f ≡ g .«no_load_cents» → ps ≡ g .prices
@@ -199,36 +243,57 @@ same-resource : (g : ResourceRecord) (a b c d e f : ℕ) (ps : List ℤ) (h i j 
       ≡ g
 same-resource g a b c d e f ps h i j os cs ls fs q₁ q₂ q₃ q₄ q₅ q₆ q₇ q₈ q₉ r₁ r₂ r₃ r₄ r₅ = simp (q₁, q₂, q₃, q₄, q₅, q₆, q₇, q₈, q₉, r₁, r₂, r₃, r₄, r₅)
 
-pub resource-back : (g : ResourceRecord) (rest : List ℕ) → Fitting (Resource g)
-    → resource-of
-        (71 ∷ (digits 1 (g .region) ++ (digits 1 (g .«minimum_run_hours») ++ (digits 1 (g .«minimum_down_hours») ++ (digits 4 (g .number)
-        ++ (digits 4 (g .«start_up_cents») ++ (digits 4 (g .«no_load_cents») ++ (joined signed-bytes (g .prices)
-        ++ (digits 1 (g .«hours_on_line») ++ (digits 1 (g .«owner_count») ++ (0 ∷ 0 ∷ (digits 4 (g .«self_scheduled») ++ (joined owner-bytes (g .owners)
-        ++ (joined word-bytes (g .«cleared_kwh») ++ (joined signed-bytes (g .lmps) ++ (joined flag-bytes (g .flags) ++ rest))))))))))))))))
-      ≡ g
-unfolding digits
-resource-back g rest f =
-    let after-lmps = joined flag-bytes (g .flags) ++ rest in
-    let after-cleared = joined signed-bytes (g .lmps) ++ after-lmps in
-    let after-owners = joined word-bytes (g .«cleared_kwh») ++ after-cleared in
-    let after-status = joined owner-bytes (g .owners) ++ after-owners in
-    let after-prices = digits 1 (g .«hours_on_line») ++ (digits 1 (g .«owner_count») ++ (0 ∷ 0 ∷ (digits 4 (g .«self_scheduled») ++ after-status))) in
-    let past-prices = λ (j : ℕ). past-row signed-bytes 4 24 96 signed-long refl (g .prices) after-prices j (f .6) in
-    let past-owners = λ (j : ℕ). past-row owner-bytes 6 8 48 owner-long refl (g .owners) after-owners j (f .11) in
-    let past-cleared = λ (j : ℕ). past-row word-bytes 4 24 96 word-long refl (g .«cleared_kwh») after-cleared j (f .13) in
-    let past-lmps = past-row signed-bytes 4 24 96 signed-long refl (g .lmps) after-lmps 0 (f .15) in
-    same-resource g _ _ _ _ _ _ _ _ _ _ _ _ _ _
-      (byte-back (g .region) (f .0))
-      (byte-back (g .«minimum_run_hours») (f .1))
-      (byte-back (g .«minimum_down_hours») (f .2))
-      (number-digits 4 (g .number) (f .3))
-      (number-digits 4 (g .«start_up_cents») (f .4))
-      (number-digits 4 (g .«no_load_cents») (f .5))
-      (signeds-back (g .prices) after-prices (f .6) (f .7))
-      (ap (λ t. getD (take 8 t) 0 0) (past-prices 0) ∙ byte-back (g .«hours_on_line») (f .8))
-      (ap (λ t. getD (take 8 t) 1 0) (past-prices 0) ∙ byte-back (g .«owner_count») (f .9))
-      (ap (λ t. value 4 4 (take 8 t)) (past-prices 0) ∙ number-digits 4 (g .«self_scheduled») (f .10))
-      (ap (λ t. each owner-from 6 8 (take 48 t)) (past-prices 8) ∙ owners-back (g .owners) after-owners (f .11) (f .12))
-      (ap (λ t. each word-from 4 24 (take 96 t)) (past-prices 56 ∙ past-owners 0) ∙ words-back (g .«cleared_kwh») after-cleared (f .13) (f .14))
-      (ap (λ t. each signed-from 4 24 (take 96 t)) (past-prices 152 ∙ past-owners 96 ∙ past-cleared 0) ∙ signeds-back (g .lmps) after-lmps (f .15) (f .16))
-      (ap (λ t. each flag-from 1 24 (take 24 t)) (past-prices 248 ∙ past-owners 192 ∙ past-cleared 96 ∙ past-lmps) ∙ flags-back (g .flags) rest (f .17))
+module _ (g : ResourceRecord) (rest : List ℕ) (f : Fitting (Resource g)) where
+  abbrev after-lmps : List ℕ
+  after-lmps = joined flag-bytes (g .flags) ++ rest
+
+  abbrev after-cleared : List ℕ
+  after-cleared = joined signed-bytes (g .lmps) ++ after-lmps
+
+  abbrev after-owners : List ℕ
+  after-owners = joined word-bytes (g .«cleared_kwh») ++ after-cleared
+
+  abbrev after-gap : List ℕ
+  after-gap = digits 4 (g .«self_scheduled») ++ (joined owner-bytes (g .owners) ++ after-owners)
+
+  abbrev after-prices : List ℕ
+  after-prices = digits 1 (g .«hours_on_line») ++ (digits 1 (g .«owner_count») ++ (0 ∷ 0 ∷ after-gap))
+
+  past-prices : (j : ℕ) → drop (96 + j) (joined signed-bytes (g .prices) ++ after-prices) ≡ drop j after-prices
+  past-prices j = past-row signed-bytes 4 24 96 signed-long refl (g .prices) after-prices j (f .6)
+
+  past-owners : (j : ℕ) → drop (48 + j) (joined owner-bytes (g .owners) ++ after-owners) ≡ drop j after-owners
+  past-owners j = past-row owner-bytes 6 8 48 owner-long refl (g .owners) after-owners j (f .11)
+
+  past-cleared : (j : ℕ) → drop (96 + j) after-owners ≡ drop j after-cleared
+  past-cleared j = past-row word-bytes 4 24 96 word-long refl (g .«cleared_kwh») after-cleared j (f .13)
+
+  past-lmps : (j : ℕ) → drop (96 + j) after-cleared ≡ drop j after-lmps
+  past-lmps j = past-row signed-bytes 4 24 96 signed-long refl (g .lmps) after-lmps j (f .15)
+
+  pub resource-gap : drop 114 (resource-with g rest) ≡ 0 ∷ 0 ∷ after-gap
+  unfolding digits
+  resource-gap = past-prices 2
+
+  pub resource-rest : drop 384 (resource-with g rest) ≡ rest
+  unfolding digits
+  resource-rest = past-prices 272 ∙ past-owners 216 ∙ past-cleared 120 ∙ past-lmps 24 ∙ past-row flag-bytes 1 24 24 flag-long refl (g .flags) rest 0 (f .17)
+
+  pub resource-back : resource-of (resource-with g rest) ≡ g
+  unfolding digits
+  resource-back =
+      same-resource g _ _ _ _ _ _ _ _ _ _ _ _ _ _
+        (byte-back (g .region) (f .0))
+        (byte-back (g .«minimum_run_hours») (f .1))
+        (byte-back (g .«minimum_down_hours») (f .2))
+        (number-digits 4 (g .number) (f .3))
+        (number-digits 4 (g .«start_up_cents») (f .4))
+        (number-digits 4 (g .«no_load_cents») (f .5))
+        (signeds-back (g .prices) after-prices (f .6) (f .7))
+        (ap (λ t. getD (take 8 t) 0 0) (past-prices 0) ∙ byte-back (g .«hours_on_line») (f .8))
+        (ap (λ t. getD (take 8 t) 1 0) (past-prices 0) ∙ byte-back (g .«owner_count») (f .9))
+        (ap (λ t. value 4 4 (take 8 t)) (past-prices 0) ∙ number-digits 4 (g .«self_scheduled») (f .10))
+        (ap (λ t. each owner-from 6 8 (take 48 t)) (past-prices 8) ∙ owners-back (g .owners) after-owners (f .11) (f .12))
+        (ap (λ t. each word-from 4 24 (take 96 t)) (past-prices 56 ∙ past-owners 0) ∙ words-back (g .«cleared_kwh») after-cleared (f .13) (f .14))
+        (ap (λ t. each signed-from 4 24 (take 96 t)) (past-prices 152 ∙ past-owners 96 ∙ past-cleared 0) ∙ signeds-back (g .lmps) after-lmps (f .15) (f .16))
+        (ap (λ t. each flag-from 1 24 (take 24 t)) (past-prices 248 ∙ past-owners 192 ∙ past-cleared 96 ∙ past-lmps 0) ∙ flags-back (g .flags) rest (f .17))

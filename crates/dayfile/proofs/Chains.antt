@@ -28,7 +28,7 @@ use Rattle.dayfile.specs.Files.{standing, after, nothing, block, blocks, kind,
 use Rattle.dayfile.specs.Days.{records, records-from}
 use Rattle.dayfile.proofs.Numbers.{Bytes, bytes-drop, value-drop, value-take}
 use Rattle.dayfile.proofs.Tables.{earlier-none-parts}
-use Rattle.dayfile.proofs.RuleLaws.{Tells, holds, fails, tells-eqb}
+use Rattle.dayfile.proofs.Tells.{Tells, holds, fails, tells-eqb}
 use Rattle.dayfile.proofs.Walks.{standing-first, standing-next}
 use Rattle.dayfile.proofs.Encodings.{length-encode, encode-kind, encode-checked, encode-known, encode-fault}
 use Rattle.dayfile.proofs.Rounds.{reads-back, kind-again, fitting-again, written-again}
@@ -124,7 +124,7 @@ judged-none k true true None false d e = let z : _≡_ {A = ℕ} 0 1 = cc in abs
 judged-none k true true None true false e = let z : _≡_ {A = ℕ} 0 1 = cc in absurd (omega arith)
 judged-none k true true None true true e = (refl, refl, refl, refl, refl)
 
-none-judged : (k : ℕ) (a b : Bool) (o : Option ℕ) (c d : Bool) → a ≡ true → b ≡ true → o ≡ None → c ≡ true → d ≡ true → judged k a b o c d ≡ None
+pub none-judged : (k : ℕ) (a b : Bool) (o : Option ℕ) (c d : Bool) → a ≡ true → b ≡ true → o ≡ None → c ≡ true → d ≡ true → judged k a b o c d ≡ None
 none-judged k a b o c d p q r s t = rw (p, q, r, s, t) refl
 
 -- the tests of a record's block are those of the record
@@ -190,7 +190,7 @@ owned-record limit b e =
     other : {c : ℕ} → getD b 0 0 ≡ c → owned limit b ≡ cond (eqb c 71) kept true
     other q = ap (λ c. cond (eqb c 71) kept true) q
 
-owned-is : (limit : ℕ) (r : Record) → Fitting r → owned limit (encode r) ≡ record-owned limit r
+pub owned-is : (limit : ℕ) (r : Record) → Fitting r → owned limit (encode r) ≡ record-owned limit r
 owned-is limit r w = owned-record limit (encode r) (encode-known r) ∙ ap (record-owned limit) (reads-back r w)
 
 -- a good record's block has no fault
@@ -311,7 +311,7 @@ accepts (r ∷ rs) f rest k e c =
 
 -- a block by itself without a fault is its record's
 module _ (b : List ℕ) (e : lone-fault b ≡ None) where
-  lone-parts : (checked b ≡ true) × (known (getD b 0 0) ≡ true) × (first-fault (table-for (getD b 0 0)) b ≡ None) × (true ≡ true) × (owned 48 b ≡ true)
+  pub lone-parts : (checked b ≡ true) × (known (getD b 0 0) ≡ true) × (first-fault (table-for (getD b 0 0)) b ≡ None) × (true ≡ true) × (owned 48 b ≡ true)
   lone-parts = judged-none 0 (checked b) (known (getD b 0 0)) (first-fault (table-for (getD b 0 0)) b) true (owned 48 b) e
 
   pub lone-known : known (getD b 0 0) ≡ true

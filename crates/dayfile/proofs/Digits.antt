@@ -1,7 +1,7 @@
 -- Numbers written digit by digit, and one after the other.
-use mathlib.Core.Path.{_≡_, refl, sym, ap, _∙_}
-use mathlib.Core.List.{List, [], _∷_, _++_}
-use Prim.Native.Nat.{ℕ, zero, suc, _+_, _-_, _/_, _%_, _^_, _<_, _≤_}
+use mathlib.Core.Path.{_≡_, sym, ap, _∙_}
+use mathlib.Core.List.{List, _++_}
+use Prim.Native.Nat.{ℕ, suc, _+_, _-_, _/_, _%_, _^_, _<_, _≤_}
 use native.Mathlib.Omega.{arith}
 use native.Mathlib.Nat.{add-zero}
 use lib.ListN.{length, getD, set, drop}
@@ -11,7 +11,6 @@ use mir.Val.{toZ, ofZ}
 use Rattle.std.proofs.shelf.Signed.{ofZ-toZ}
 use Rattle.dayfile.specs.Bytes.{digits, laid, value}
 use Rattle.dayfile.specs.Records.{hour-from}
-use Rattle.dayfile.specs.declared.record.RealTimeHour.{RealTimeHour}
 use Rattle.dayfile.proofs.Laid.{laid-nil, laid-cons, laid-append, length-laid}
 use Rattle.dayfile.proofs.Numbers.{value-one, value-drop, length-digits}
 

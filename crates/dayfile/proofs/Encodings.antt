@@ -1,25 +1,20 @@
 -- The block of a record: its length, its bytes, its letter, its check.
-use mathlib.Core.Path.{_≡_, refl, sym, ap, _∙_, subst}
+use mathlib.Core.Path.{_≡_, refl, sym, ap, _∙_}
 use mathlib.Core.List.{List, [], _∷_, _++_}
-use mathlib.Core.Bool.{Bool, true, false}
-use Prim.Native.Nat.{ℕ, zero, suc, _+_, _-_, _*_, _^_, _<_, _≤_}
+use mathlib.Core.Bool.{true}
+use Prim.Native.Nat.{ℕ, zero, suc, _+_, _*_, _^_, _<_, _≤_}
 use native.Mathlib.Omega.{arith}
 use native.Mathlib.Nat.{mul-suc, mul-le-mul}
-use lib.Dec.{eqb}
-use lib.IntN.{ℤ}
-use lib.ListN.{length, getD, take, drop, replicate}
+use lib.ListN.{length, getD, take}
 use Rattle.std.specs.shelf.Lists.{All, joined}
 use Rattle.std.proofs.shelf.Lists.{append-nil, length-append, length-replicate, take-at, drop-at, take-all, drop-all, getD-take}
 use Rattle.std.proofs.shelf.Elements.{all-append}
 use Rattle.std.proofs.shelf.Tests.{eq-eqb}
-use Rattle.std.specs.declared.option.Option.{Option}
 use Rattle.dayfile.specs.declared.record.Record.{Record}
 use Rattle.dayfile.specs.declared.record.Record.the-variants.{Day, Participant, Resource, RealTime}
 use Rattle.dayfile.specs.declared.record.Load.{Load}
 use Rattle.dayfile.specs.declared.record.Owner.{Owner}
 use Rattle.dayfile.specs.declared.record.RealTimeHour.{RealTimeHour}
-use Rattle.dayfile.specs.declared.record.Flag.{Flag}
-use Rattle.dayfile.specs.declared.record.Event.{Event}
 use Rattle.dayfile.specs.Bytes.{number, digits, value, weighed, zeros, laid}
 use Rattle.dayfile.specs.Layout.{first-fault, table-for, all-sized}
 use Rattle.dayfile.specs.Files.{checked, known}
@@ -172,6 +167,9 @@ small-body (RealTime r) =
       (parts-with hour-bytes small-hour (r .hours) _
       (parts-with event-bytes (λ e. small-digits 1 _) (r .events) _
       (parts-with flag-bytes (λ f. small-digits 1 _) (r .flags) _ (small-zeros 160)))))) )
+
+pub body-bytes : (r : Record) → Bytes (body r)
+body-bytes r = bytes-from-all (body r) (small-body r)
 
 pub encode-bytes : (r : Record) → Bytes (encode r)
 unfolding encode

@@ -31,8 +31,10 @@ use Rattle.dayfile.proofs.Tables.{earlier-none-parts, first-none-parts, entry-
 use Rattle.dayfile.proofs.Walks.{standing-first}
 use Rattle.dayfile.proofs.Encodings.{length-encode, encode-kind}
 use Rattle.dayfile.proofs.Rounds.{reads-back}
-use Rattle.dayfile.proofs.Chains.{Chain, ends, chained, accepts, none-left, none-right, order-known, judged-none}
-use Rattle.dayfile.proofs.Shapes.{Pair, pair-records, day-records, Shaped, Day-shape, chain-shape, shape-chain, day-ends}
+use Rattle.dayfile.specs.Writing.{Fitting}
+use Rattle.dayfile.proofs.Chains.{Chain, step, ends, chained, accepts, none-left, none-right, order-known, judged-none}
+use Rattle.dayfile.specs.WellFormed.{Generator, generator-records, day-records}
+use Rattle.dayfile.proofs.Shapes.{Shaped, Day-shape, chain-shape, shape-chain, day-ends}
 
 -- what an accepted file's tests say
 pub record Passed (f : List ℕ) : Type 0 where
@@ -179,3 +181,84 @@ few-participants f k p l =
     let e : k + (blocks f - k) ≡ blocks f = omega arith in
     let m = tally-more 80 f k (blocks f - k) in
     omega (arith, m, ap (tally 80 f) e, p .participants, counted-few f p)
+
+-- what the first block of a day's records says of its counts
+counts-of : (d : DayRecord) (rest : List ℕ) → Fitting (Day d) → (getD (encode (Day d) ++ rest) 10 0 ≡ d .participants) × (getD (encode (Day d) ++ rest) 11 0 ≡ d .resources)
+counts-of d rest w =
+    let b = encode (Day d) in
+    let e : record-of b ≡ Day (day-of b) = cond-true (eqb (getD b 0 0) 68) (Day (day-of b)) _ (eq-eqb (getD b 0 0) 68 (encode-kind (Day d))) in
+    let s : day-of b ≡ d = day-same (sym e ∙ reads-back (Day d) w) in
+    let n = length-encode (Day d) w in
+    ( getD-append-left b rest 0 10 (omega (arith, n)) ∙ sym (head-byte b 6 (omega arith)) ∙ ap (λ (x : DayRecord). x .participants) s
+    , getD-append-left b rest 0 11 (omega (arith, n)) ∙ sym (head-byte b 7 (omega arith)) ∙ ap (λ (x : DayRecord). x .resources) s )
+
+pub joined-length : (rs : List Record) (s : Before) → Chain s rs → length (joined encode rs) ≡ 512 * length rs
+joined-length [] s c = refl
+joined-length (r ∷ rs) s c = length-append (encode r) (joined encode rs) ∙ omega (arith, length-encode r (c .0 .fits), joined-length rs (step s r) (c .1))
+
+pairs-few : (us : List Generator) → length (joined generator-records us) ≤ 2 * length us
+pairs-few [] = omega arith
+pairs-few ((g, None) ∷ us) = omega (arith, pairs-few us)
+pairs-few ((g, Some r) ∷ us) = omega (arith, pairs-few us)
+
+-- LAW, one way: a day's records, joined, are accepted
+pub shaped-accepted : (d : DayRecord) (ps : List ParticipantRecord) (us : List Generator) → Shaped d ps us → d .participants ≡ length ps → d .resources ≡ length us
+    → length ps ≤ 48 → length us ≤ 24 → (f : List ℕ) → joined encode (day-records d ps us) ≡ f → verdict f ≡ None
+shaped-accepted d ps us h dp dr lp lu f e =
+    let rs = day-records d ps us in
+    let c = shape-chain d ps us h in
+    let n : length (joined encode (day-records d ps us)) ≡ 512 * length (day-records d ps us) = joined-length rs nothing c in
+    let lf : length f ≡ 512 * length (day-records d ps us) = ap length (sym e) ∙ n in
+    let m : length (day-records d ps us) ≡ 1 + (length ps + length (joined generator-records us)) = omega (arith, length-append (map Participant ps) (joined generator-records us), length-map ps Participant) in
+    let few = pairs-few us in
+    let bs : blocks f ≡ length (day-records d ps us) = omega (arith, lf) in
+    let ch = subst (λ s. Chain s rs) (sym (standing-first f)) c in
+    let a = accepts rs f [] 0 (sym e ∙ sym (append-nil (joined encode rs))) ch in
+    let st : standing f (blocks f) ≡ ends nothing (day-records d ps us) =
+        ap (standing f) (bs ∙ sym (zero-add (length rs))) ∙ a .ending ∙ ap (λ s. ends s rs) (standing-first f) in
+    let de = day-ends d ps us in
+    let co = counts-of d (joined encode (map Participant ps ++ joined generator-records us)) (h .day .0) in
+    unrefused f
+      (record
+        { some = λ z. absurd (omega (arith, z, lf, m))
+        ; whole = omega (arith, lf)
+        ; short = omega (arith, lf, m, few)
+        ; none = ap (blocks-fault f 0) bs ∙ a .none
+        ; participants = ap (λ (s : Before). s .participants) st ∙ de .0 ∙ sym dp ∙ sym (co .0) ∙ ap (λ x. getD x 10 0) e
+        ; resources = ap (λ (s : Before). s .resources) st ∙ de .1 ∙ sym dr ∙ sym (co .1) ∙ ap (λ x. getD x 11 0) e })
+
+-- and the other way: an accepted file's records are a day's
+pub record Shape-of (f : List ℕ) : Type 0 where
+  pub d : DayRecord
+  pub ps : List ParticipantRecord
+  pub us : List Generator
+  pub same : records f ≡ day-records d ps us
+  pub shaped : Shaped d ps us
+  pub participants : d .participants ≡ length ps
+  pub resources : d .resources ≡ length us
+  pub again : joined encode (day-records d ps us) ≡ f
+
+records-length : (f : List ℕ) (k n : ℕ) → length (records-from f k n) ≡ n
+unfolding records-from
+records-length f k zero = refl
+records-length f k (suc n) = ap suc (records-length f (k + 1) n)
+
+pub accepted-shaped : (f : List ℕ) → Bytes f → Passed f → Shape-of f
+accepted-shaped f h p =
+    let k = chained f h (blocks f) 0 (omega (arith, p .whole)) (p .none) in
+    let c = records-chain f h p in
+    let s = chain-shape (records f) (omega (arith, records-length f 0 (blocks f), some-block f p)) c in
+    let again = ap (joined encode) (sym (s .same)) ∙ records-again f h p in
+    let en : ends nothing (day-records (s .d) (s .ps) (s .us)) ≡ standing f (blocks f) =
+        ap (ends nothing) (sym (s .same)) ∙ ap (λ x. ends x (records f)) (sym (standing-first f)) ∙ k .ending ∙ ap (standing f) (zero-add (blocks f)) in
+    let de = day-ends (s .d) (s .ps) (s .us) in
+    let co = counts-of (s .d) (joined encode (map Participant (s .ps) ++ joined generator-records (s .us))) (s .shaped .day .0) in
+    record
+      { d = s .d
+      ; ps = s .ps
+      ; us = s .us
+      ; same = s .same
+      ; shaped = s .shaped
+      ; participants = sym (co .0) ∙ ap (λ x. getD x 10 0) again ∙ sym (p .participants) ∙ sym (ap (λ (x : Before). x .participants) en) ∙ de .0
+      ; resources = sym (co .1) ∙ ap (λ x. getD x 11 0) again ∙ sym (p .resources) ∙ sym (ap (λ (x : Before). x .resources) en) ∙ de .1
+      ; again = again }

@@ -12,9 +12,15 @@ pub mod Refusals
 pub mod Rounds
 pub mod Backs
 pub mod Agains
+pub mod Keepings
+pub mod Tells
 pub mod Walks
+pub mod FirstRules
 pub mod RuleLaws
 pub mod Chains
 pub mod Shapes
 pub mod FileLaws
 pub mod DayWrites
+pub mod WellFormedLaws
+pub mod WritingLaws
+pub mod LoneLaws

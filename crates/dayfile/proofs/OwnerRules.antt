@@ -3,16 +3,19 @@ use mathlib.Core.Path.{_≡_, refl, sym, ap, _∙_, subst}
 use mathlib.Core.Logic.{_⊎_, inl, inr}
 use mathlib.Core.List.{List, [], _∷_, map}
 use mathlib.Core.Bool.{Bool, true, false, _&&_}
-use Prim.Native.Nat.{ℕ, zero, suc, min, _+_, _<_, _≤_}
+use Prim.Native.Nat.{ℕ, min, _+_, _^_, _<_, _≤_}
 use native.Mathlib.Omega.{arith}
+use native.Mathlib.Nat.{le-refl}
 use lib.Dec.{eqb, ltb, leb}
 use lib.ListN.{length, getD, take, drop}
 use Rattle.std.specs.shelf.Lists.{All, sum}
-use Rattle.std.proofs.shelf.Lists.{at-drop-more}
+use Rattle.std.proofs.shelf.Lists.{at-drop-more, take-append-drop}
+use Rattle.std.proofs.shelf.Elements.{all-append, all-weaker}
 use Rattle.std.proofs.shelf.Sums.{sum-map, sumBy-cons}
 use Rattle.std.proofs.shelf.Tests.{and-parts, eqb-true, ltb-true, leb-true, and-left, and-right, and-from, eq-eqb, ne-eqb, lt-ltb, le-ltb, le-leb, lt-leb}
 use Rattle.dayfile.specs.declared.record.Owner.{Owner}
 use Rattle.dayfile.specs.Owners.{Rises, Owned, placed, parts-of, vacant, owners-kept}
+use Rattle.dayfile.specs.Writing.{Owner-fits}
 use Rattle.dayfile.proofs.Cuts.{take-min, drop-min}
 
 abbrev pub no-owner : Owner
@@ -132,6 +135,26 @@ true-vacant (o ∷ os) a = and-from _ _ (and-from _ _ (eq-eqb _ _ (a .0 .0)) (eq
 starts-none : (os : List Owner) → Starts 0 os
 starts-none [] = tt
 starts-none (o ∷ os) = omega arith
+
+-- the owners' numbers are small
+parts-le : (m : ℕ) (os : List Owner) → parts-of os ≤ m → All (λ o. o .parts ≤ m) os
+unfolding parts-of
+parts-le m [] l = tt
+parts-le m (o ∷ os) l = (omega arith, parts-le m os (omega arith))
+
+used-fit : (os : List Owner) → All (λ o. o .place < 2 ^ 16) os → All (λ o. o .parts ≤ 1000000) os → All Owner-fits os
+used-fit [] p q = tt
+used-fit (o ∷ os) p q = ((p .0, omega (arith, q .0)), used-fit os (p .1) (q .1))
+
+unused-fit : (os : List Owner) → All (λ o. (o .place ≡ 0) × (o .parts ≡ 0)) os → All Owner-fits os
+unused-fit os a = all-weaker (λ o. (o .place ≡ 0) × (o .parts ≡ 0)) Owner-fits (λ o e. (omega (arith, e .0), omega (arith, e .1))) os a
+
+pub owned-fits : (limit count : ℕ) (os : List Owner) → limit ≤ 2 ^ 16 → Owned limit count os → All Owner-fits os
+owned-fits limit count os l o =
+    let used = take count os in
+    let places = all-weaker (λ o. o .place < limit) (λ o. o .place < 2 ^ 16) (λ o h. omega (arith, h)) used (o .below) in
+    let parts = parts-le 1000000 used (subst (λ n. n ≤ 1000000) (sym (parts-sum used ∙ o .whole)) (le-refl 1000000)) in
+    subst (All Owner-fits) (take-append-drop count os) (all-append Owner-fits used (drop count os) (used-fit used places parts) (unused-fit (drop count os) (o .unused)))
 
 pub kept-owned : (limit count : ℕ) (os : List Owner) → owners-kept limit count os ≡ true → Owned limit count os
 kept-owned limit count os e =

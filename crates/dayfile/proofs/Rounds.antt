@@ -1,13 +1,13 @@
 -- What is written reads back, and what was read is written again.
-use mathlib.Core.Path.{_≡_, refl, sym, ap, _∙_, subst}
+use mathlib.Core.Path.{_≡_, sym, ap, _∙_, subst}
 use mathlib.Core.Logic.{_⊎_, inl, inr}
-use mathlib.Core.Bool.{Bool, true, false, cond}
-use mathlib.Core.List.{List, [], _∷_, _++_}
-use Prim.Native.Nat.{ℕ, zero, suc, _+_, _-_, _*_, _/_, _%_, _^_, _<_, _≤_}
+use mathlib.Core.Bool.{true}
+use mathlib.Core.List.{List, _∷_, _++_}
+use Prim.Native.Nat.{ℕ}
 use native.Mathlib.Omega.{arith}
 use lib.Dec.{eqb}
 use lib.ListN.{length, getD, take, drop}
-use Rattle.std.specs.shelf.Lists.{All, joined}
+use Rattle.std.specs.shelf.Lists.{joined}
 use Rattle.std.proofs.shelf.Lists.{append-assoc, length-drop, take-all, take-append-drop}
 use Rattle.std.proofs.shelf.Tests.{cond-true, cond-false, cond-both, or-cases, eqb-true, eq-eqb, ne-eqb}
 use Rattle.std.specs.declared.option.Option.the-variants.{None}
@@ -16,7 +16,7 @@ use Rattle.dayfile.specs.declared.block.Block.the-variants.{Day as DayBlock, P
 use Rattle.dayfile.specs.declared.record.Record.{Record}
 use Rattle.dayfile.specs.declared.record.Record.the-variants.{Day, Participant, Resource, RealTime}
 use Rattle.dayfile.specs.Blocks.{Shows, shown}
-use Rattle.dayfile.specs.Bytes.{digits, value, weighed, zeros, each}
+use Rattle.dayfile.specs.Bytes.{digits, value, weighed, zeros}
 use Rattle.dayfile.specs.Layout.{first-fault, table-for}
 use Rattle.dayfile.specs.Files.{checked, known}
 use Rattle.dayfile.specs.Records.{word-bytes, signed-bytes, flag-bytes, event-bytes, load-bytes, owner-bytes, hour-bytes, day-of, participant-of, resource-of, real-time-of, record-of, body, encode, sealed, kind-of}

@@ -21,74 +21,13 @@ use Rattle.dayfile.specs.declared.record.Owner.{Owner}
 use Rattle.dayfile.specs.Owners.{Owned, owners-kept}
 use Rattle.dayfile.specs.Records.{resource-of}
 use Rattle.dayfile.specs.Files.{tally, latest, kind-before, number-before, standing, block, blocks, kind, number-in, checked, in-order, untied, above, rising, owned, judged, block-fault, blocks-fault, or-else, verdict, answer, well-sized, counted, end-fault}
-use Rattle.dayfile.specs.Rules.{Rule, Law, check, order, field, number, owners, size, at, counts, refusal, Ordered, Untied, Last, Breaks, Broken, turn, byte, Sooner, Earlier, First-broken, Just-where, Ruled}
-use Rattle.dayfile.proofs.OwnerRules.{kept-owned, owned-kept}
+use Rattle.dayfile.specs.Rules.{Rule, Law, check, order, field, number, owners, size, at, counts, refusal, Ordered, Untied, Last, Breaks, Broken, turn, byte, Sooner, Earlier, First-broken, First, Just-where, Ruled}
+use Rattle.dayfile.proofs.Tells.{Tells, holds, fails, tells-and, tells-or, tells-not, tells-like, tells-eqb, tells-leb, tells-ltb, kept-tells, Denies, clear, broken, denies-like, denies-not}
+use Rattle.dayfile.proofs.FirstRules.{Says, judged-says, line-rule}
 use Rattle.dayfile.proofs.Tables.{Least, first-least, least-either, least-like}
 
--- a test and what it tells: it is true just where P holds
-pub data Tells (P : Type 0) : Bool → Type 0 where
-  holds : P → Tells P true
-  fails : (P → ⊥) → Tells P false
-
-pub tells-and : {P Q : Type 0} {a b : Bool} → Tells P a → Tells Q b → Tells (P × Q) (a && b)
-tells-and (holds p) (holds q) = holds (p, q)
-tells-and (holds p) (fails q) = fails (λ h. q (h .1))
-tells-and (fails p) t = fails (λ h. p (h .0))
-
-pub tells-or : {P Q : Type 0} {a b : Bool} → Tells P a → Tells Q b → Tells (P ⊎ Q) (a || b)
-tells-or (holds p) t = holds (inl p)
-tells-or (fails p) (holds q) = holds (inr q)
-tells-or (fails p) (fails q) = fails (λ h. elim h [ inl x ↦ p x | inr y ↦ q y ])
-
-pub tells-not : {P : Type 0} {a : Bool} → Tells P a → Tells (P → ⊥) (not a)
-tells-not (holds p) = fails (λ h. h p)
-tells-not (fails p) = holds p
-
-pub tells-like : {P Q : Type 0} {a : Bool} → (P → Q) → (Q → P) → Tells P a → Tells Q a
-tells-like f g (holds p) = holds (f p)
-tells-like f g (fails p) = fails (λ q. p (g q))
-
-pub tells-eqb : (m n : ℕ) → Tells (m ≡ n) (eqb m n)
-tells-eqb m n = go (eqb m n) refl
-  where
-    go : (b : Bool) → eqb m n ≡ b → Tells (m ≡ n) b
-    go true e = holds (eqb-true m n e)
-    go false e = fails (eqb-false m n e)
-
-pub tells-leb : (m n : ℕ) → Tells (m ≤ n) (leb m n)
-tells-leb m n = go (leb m n) refl
-  where
-    go : (b : Bool) → leb m n ≡ b → Tells (m ≤ n) b
-    go true e = holds (leb-true m n e)
-    go false e = fails (λ h. absurd (omega (arith, leb-false m n e)))
-
-pub tells-ltb : (m n : ℕ) → Tells (m < n) (ltb m n)
-tells-ltb m n = tells-leb (suc m) n
-
--- what the test's value says
-pub told-true : {P : Type 0} {b : Bool} → Tells P b → b ≡ true → P
-told-true (holds p) e = p
-told-true (fails p) e = let z : _≡_ {A = ℕ} 0 1 = cc in absurd (omega arith)
-
-pub told-false : {P : Type 0} {b : Bool} → Tells P b → b ≡ false → P → ⊥
-told-false (holds p) e h = let z : _≡_ {A = ℕ} 0 1 = cc in absurd (omega arith)
-told-false (fails p) e h = p h
-
-pub tell-true : {P : Type 0} {b : Bool} → Tells P b → P → b ≡ true
-tell-true (holds p) h = refl
-tell-true (fails p) h = absurd (p h)
-
--- a test that is true just where nothing breaks a rule
-pub data Denies (P : Type 0) : Bool → Type 0 where
-  clear : (P → ⊥) → Denies P true
-  broken : P → Denies P false
-
-pub denies-like : {P Q : Type 0} {a : Bool} → (P → Q) → (Q → P) → Denies P a → Denies Q a
-denies-like f g (clear p) = clear (λ q. p (g q))
-denies-like f g (broken p) = broken (f p)
-
 -- the rules for a block, each told by its test
-module _ (kept-tells : (limit count : ℕ) (os : List Owner) → Tells (Owned limit count os) (owners-kept limit count os)) (f : List ℕ) where
+module _ (f : List ℕ) where
   checked-tells : (k : ℕ) → Tells (value 508 4 (block f k) ≡ weighed 0 (take 508 (block f k))) (checked (block f k))
   checked-tells k = tells-eqb (value 508 4 (block f k)) (weighed 0 (take 508 (block f k)))
 
@@ -106,15 +45,15 @@ module _ (kept-tells : (limit count : ℕ) (os : List Owner) → Tells (Owned li
   least-if p (holds h) = ((refl, h), λ q l g. absurd (omega (arith, g .0)))
   least-if p (fails h) = λ q g. h (g .1)
 
-  untied-least : (k : ℕ) → Ordered f k → Least (λ p. (p ≡ 4) × Untied f k) (untied (standing f k) (block f k))
+  untied-least : (k : ℕ) → ((Ordered f k → ⊥) → ⊥) → Least (λ p. (p ≡ 4) × Untied f k) (untied (standing f k) (block f k))
   unfolding number-before
   untied-least zero o =
-      let e : (eqb (kind f 0) 82 && not (eqb (number-in f 0) 0)) ≡ false = ap (λ b. b && not (eqb (number-in f 0) 0)) (ne-eqb (kind f 0) 82 (λ z. absurd (omega (arith, z, o)))) in
+      let e : (eqb (kind f 0) 82 && not (eqb (number-in f 0) 0)) ≡ false = ap (λ b. b && not (eqb (number-in f 0) 0)) (ne-eqb (kind f 0) 82 (λ z. o (λ h. absurd (omega (arith, z, h))))) in
       let P : Option ℕ → Type 0 = Least (λ p. (p ≡ 4) × ⊥) in
       subst P (sym (cond-false (eqb (kind f 0) 82 && not (eqb (number-in f 0) 0)) (Some 4) None e)) (λ p h. h .1)
   untied-least (suc j) o = least-if 4 (tells-and (tells-eqb (kind f (suc j)) 82) (tells-not (tells-eqb (number-in f (suc j)) (number-in f j))))
 
-  field-least : (k : ℕ) → Ordered f k → Least (λ p. Breaks f k (field p)) (earlier (first-fault (table-for (kind f k)) (block f k)) (untied (standing f k) (block f k)))
+  field-least : (k : ℕ) → ((Ordered f k → ⊥) → ⊥) → Least (λ p. Breaks f k (field p)) (earlier (first-fault (table-for (kind f k)) (block f k)) (untied (standing f k) (block f k)))
   field-least k o =
       least-either (Faulty (table-for (kind f k)) (block f k)) (λ p. (p ≡ 4) × Untied f k) _ _ (first-least (table-for (kind f k)) (block f k)) (untied-least k o)
 
@@ -180,80 +119,16 @@ module _ (kept-tells : (limit count : ℕ) (os : List Owner) → Tells (Owned li
       go (holds e) = own e (kept-tells (tally 80 f k) (resource-of (block f k) .«owner_count») (resource-of (block f k) .owners))
       go (fails m) = clear (λ b. m (b .0))
 
-  -- the first rule that block k breaks
-  abbrev First-in : ℕ → Rule → Type 0
-  First-in k r = Breaks f k r × ((q : Rule) → Sooner q r → Breaks f k q → ⊥)
-
-  abbrev Block-says : ℕ → Option Fault → Type 0
-  Block-says k None = (r : Rule) → Breaks f k r → ⊥
-  Block-says k (Some x) = (r : Rule) × ((x ≡ refusal (at k r)) × First-in k r)
-
-  abbrev Checks : ℕ → Type 0
-  Checks k = value 508 4 (block f k) ≡ weighed 0 (take 508 (block f k))
-
-  -- no rule that comes sooner is broken
-  none-before-check : (k : ℕ) (q : Rule) → Sooner q check → Breaks f k q → ⊥
-  none-before-check k check s g = elim s [ inl x ↦ absurd (omega arith) | inr x ↦ absurd (omega (arith, x .0, x .1)) ]
-  none-before-check k order s g = elim s [ inl x ↦ absurd (omega arith) | inr x ↦ absurd (omega (arith, x .0, x .1)) ]
-  none-before-check k (field q) s g = elim s [ inl x ↦ absurd (omega arith) | inr x ↦ absurd (omega (arith, x .0, x .1)) ]
-  none-before-check k number s g = elim s [ inl x ↦ absurd (omega arith) | inr x ↦ absurd (omega (arith, x .0, x .1)) ]
-  none-before-check k owners s g = elim s [ inl x ↦ absurd (omega arith) | inr x ↦ absurd (omega (arith, x .0, x .1)) ]
-
-  none-before-order : (k : ℕ) → Checks k → (q : Rule) → Sooner q order → Breaks f k q → ⊥
-  none-before-order k c check s g = g c
-  none-before-order k c order s g = elim s [ inl x ↦ absurd (omega arith) | inr x ↦ absurd (omega (arith, x .0, x .1)) ]
-  none-before-order k c (field q) s g = elim s [ inl x ↦ absurd (omega arith) | inr x ↦ absurd (omega (arith, x .0, x .1)) ]
-  none-before-order k c number s g = elim s [ inl x ↦ absurd (omega arith) | inr x ↦ absurd (omega (arith, x .0, x .1)) ]
-  none-before-order k c owners s g = elim s [ inl x ↦ absurd (omega arith) | inr x ↦ absurd (omega (arith, x .0, x .1)) ]
-
-  none-before-field : (k : ℕ) → Checks k → Ordered f k → (p : ℕ) → ((q : ℕ) → q < p → Breaks f k (field q) → ⊥) → (q : Rule) → Sooner q (field p) → Breaks f k q → ⊥
-  none-before-field k c o p l check s g = g c
-  none-before-field k c o p l order s g = g o
-  none-before-field k c o p l (field q) s g = elim s [ inl x ↦ absurd (omega arith) | inr x ↦ l q (x .1) g ]
-  none-before-field k c o p l number s g = elim s [ inl x ↦ absurd (omega arith) | inr x ↦ absurd (omega (arith, x .0, x .1)) ]
-  none-before-field k c o p l owners s g = elim s [ inl x ↦ absurd (omega arith) | inr x ↦ absurd (omega (arith, x .0, x .1)) ]
-
-  none-before-number : (k : ℕ) → Checks k → Ordered f k → ((q : ℕ) → Breaks f k (field q) → ⊥) → (q : Rule) → Sooner q number → Breaks f k q → ⊥
-  none-before-number k c o l check s g = g c
-  none-before-number k c o l order s g = g o
-  none-before-number k c o l (field q) s g = l q g
-  none-before-number k c o l number s g = elim s [ inl x ↦ absurd (omega arith) | inr x ↦ absurd (omega (arith, x .0, x .1)) ]
-  none-before-number k c o l owners s g = elim s [ inl x ↦ absurd (omega arith) | inr x ↦ absurd (omega (arith, x .0, x .1)) ]
-
-  none-before-owners : (k : ℕ) → Checks k → Ordered f k → ((q : ℕ) → Breaks f k (field q) → ⊥) → (Breaks f k number → ⊥) → (q : Rule) → Sooner q owners → Breaks f k q → ⊥
-  none-before-owners k c o l n check s g = g c
-  none-before-owners k c o l n order s g = g o
-  none-before-owners k c o l n (field q) s g = l q g
-  none-before-owners k c o l n number s g = n g
-  none-before-owners k c o l n owners s g = elim s [ inl x ↦ absurd (omega arith) | inr x ↦ absurd (omega (arith, x .0, x .1)) ]
-
-  none-broken : (k : ℕ) → Checks k → Ordered f k → ((q : ℕ) → Breaks f k (field q) → ⊥) → (Breaks f k number → ⊥) → (Breaks f k owners → ⊥) → (q : Rule) → Breaks f k q → ⊥
-  none-broken k c o l n w check g = g c
-  none-broken k c o l n w order g = g o
-  none-broken k c o l n w (field q) g = l q g
-  none-broken k c o l n w number g = n g
-  none-broken k c o l n w owners g = w g
-
-  block-says : (k : ℕ) → Block-says k (block-fault (standing f k) k (block f k))
-  block-says k = go (checked-tells k) (ordered-tells k) (earlier (first-fault (table-for (kind f k)) (block f k)) (untied (standing f k) (block f k))) (λ o. field-least k o) (rising-denies k) (owned-denies k)
-    where
-      own : {x : Bool} → Checks k → Ordered f k → ((q : ℕ) → Breaks f k (field q) → ⊥) → (Breaks f k number → ⊥) → Denies (Breaks f k owners) x → Block-says k (cond x None (Some (Owners k)))
-      own c o l n (clear w) = none-broken k c o l n w
-      own c o l n (broken w) = (owners, (refl, (w, none-before-owners k c o l n)))
-      go : {a b c d : Bool}
-          → Tells (Checks k) a → Tells (Ordered f k) b → (o : Option ℕ) → (Ordered f k → Least (λ p. Breaks f k (field p)) o)
-          → Denies (Breaks f k number) c → Denies (Breaks f k owners) d → Block-says k (judged k a b o c d)
-      go (fails c) t o l u v = (check, (refl, (c, none-before-check k)))
-      go (holds c) (fails t) o l u v = (order, (refl, (t, none-before-order k c)))
-      go (holds c) (holds t) (Some p) l u v = (field p, (refl, (l t .0, none-before-field k c t p (l t .1))))
-      go (holds c) (holds t) None l (broken n) v = (number, (refl, (n, none-before-number k c t (l t))))
-      go (holds c) (holds t) None l (clear n) v = own c t (l t) n v
+  block-says : (k : ℕ) → Says (Breaks f k) k (block-fault (standing f k) k (block f k))
+  block-says k =
+      judged-says (Breaks f k) k (denies-not (checked-tells k)) (denies-not (ordered-tells k)) (earlier (first-fault (table-for (kind f k)) (block f k)) (untied (standing f k) (block f k)))
+        (λ o. field-least k o) (rising-denies k) (owned-denies k)
 
   -- what n blocks from block k on say
   abbrev Blocks-say : ℕ → ℕ → Option Fault → Type 0
   Blocks-say k n None = (j : ℕ) → k ≤ j → j < k + n → (r : Rule) → Breaks f j r → ⊥
   Blocks-say k n (Some x) =
-      (j : ℕ) × ((r : Rule) × ((x ≡ refusal (at j r)) × (k ≤ j) × (j < k + n) × First-in j r × ((i : ℕ) → k ≤ i → i < j → (q : Rule) → Breaks f i q → ⊥)))
+      (j : ℕ) × ((r : Rule) × ((x ≡ refusal (at j r)) × (k ≤ j) × (j < k + n) × First (Breaks f j) r × ((i : ℕ) → k ≤ i → i < j → (q : Rule) → Breaks f i q → ⊥)))
 
   blocks-say : (n k : ℕ) → Blocks-say k n (blocks-fault f k n)
   unfolding blocks-fault
@@ -262,7 +137,7 @@ module _ (kept-tells : (limit count : ℕ) (os : List Owner) → Tells (Owned li
     where
       here : (P : ℕ → Type 0) (i : ℕ) → k ≤ i → P k → (k + 1 ≤ i → P i) → P i
       here P i l p q = elim (cases-lt k i) [ inl s ↦ q (omega arith) | inr s ↦ (let e : k ≡ i = omega arith in subst P e p) ]
-      go : (o : Option Fault) → Block-says k o → (u : Option Fault) → Blocks-say (k + 1) n u → Blocks-say k (suc n) (or-else o u)
+      go : (o : Option Fault) → Says (Breaks f k) k o → (u : Option Fault) → Blocks-say (k + 1) n u → Blocks-say k (suc n) (or-else o u)
       go (Some x) h u g = (k, (h .0, (h .1 .0, omega arith, omega arith, h .1 .1, λ i l m q b. absurd (omega arith))))
       go None h None g = λ j l m. here (λ i. (r : Rule) → Breaks f i r → ⊥) j l h (λ s. g j s (omega arith))
       go None h (Some x) g =
@@ -324,47 +199,6 @@ module _ (kept-tells : (limit count : ℕ) (os : List Owner) → Tells (Owned li
       go (clear s) None h c = ends s (λ j l. h j (omega arith) (omega arith)) c
 
 -- the order of the laws is a line
-same-rule : (q r : Rule) → turn q ≡ turn r → byte q ≡ byte r → q ≡ r
-same-rule check check t e = refl
-same-rule check order t e = absurd (omega (arith, t))
-same-rule check (field o) t e = absurd (omega (arith, t))
-same-rule check number t e = absurd (omega (arith, t))
-same-rule check owners t e = absurd (omega (arith, t))
-same-rule order check t e = absurd (omega (arith, t))
-same-rule order order t e = refl
-same-rule order (field o) t e = absurd (omega (arith, t))
-same-rule order number t e = absurd (omega (arith, t))
-same-rule order owners t e = absurd (omega (arith, t))
-same-rule (field p) check t e = absurd (omega (arith, t))
-same-rule (field p) order t e = absurd (omega (arith, t))
-same-rule (field p) (field o) t e = ap field e
-same-rule (field p) number t e = absurd (omega (arith, t))
-same-rule (field p) owners t e = absurd (omega (arith, t))
-same-rule number check t e = absurd (omega (arith, t))
-same-rule number order t e = absurd (omega (arith, t))
-same-rule number (field o) t e = absurd (omega (arith, t))
-same-rule number number t e = refl
-same-rule number owners t e = absurd (omega (arith, t))
-same-rule owners check t e = absurd (omega (arith, t))
-same-rule owners order t e = absurd (omega (arith, t))
-same-rule owners (field o) t e = absurd (omega (arith, t))
-same-rule owners number t e = absurd (omega (arith, t))
-same-rule owners owners t e = refl
-
-line-rule : (q r : Rule) → Sooner q r ⊎ ((q ≡ r) ⊎ Sooner r q)
-line-rule q r =
-    elim (cases-lt (turn q) (turn r))
-    [ inl l ↦ inl (inl l)
-    | inr l ↦ elim (cases-lt (turn r) (turn q))
-      [ inl m ↦ inr (inr (inl m))
-      | inr m ↦ (
-        let e : turn q ≡ turn r = omega arith in
-        elim (cases-lt (byte q) (byte r))
-        [ inl b ↦ inl (inr (e, b))
-        | inr b ↦ elim (cases-lt (byte r) (byte q))
-          [ inl d ↦ inr (inr (inr (sym e, d)))
-          | inr d ↦ inr (inl (same-rule q r e (omega arith))) ] ]) ] ]
-
 line : (l m : Law) → Earlier l m ⊎ ((l ≡ m) ⊎ Earlier m l)
 line size size = inr (inl refl)
 line size (at k r) = inl tt
@@ -423,29 +257,21 @@ law-again (at k number) = refl
 law-again (at k owners) = refl
 law-again counts = refl
 
-same-law : (l m : Law) → refusal l ≡ refusal m → l ≡ m
+pub same-law : (l m : Law) → refusal l ≡ refusal m → l ≡ m
 same-law l m e = sym (law-again l) ∙ ap law-of e ∙ law-again m
-
--- a test of the owners tells whether they keep their rules
-kept-tells : (limit count : ℕ) (os : List Owner) → Tells (Owned limit count os) (owners-kept limit count os)
-kept-tells limit count os = go (owners-kept limit count os) refl
-  where
-    go : (b : Bool) → owners-kept limit count os ≡ b → Tells (Owned limit count os) b
-    go true e = holds (kept-owned limit count os e)
-    go false e = fails (λ h. let z : true ≡ false = sym (owned-kept limit count os h) ∙ e in let y : _≡_ {A = ℕ} 0 1 = cc in absurd (omega arith))
 
 -- THE LAW: refused just where a rule is the first that is broken, accepted just where none is
 module _ (f : List ℕ) where
-  says : Verdict-says kept-tells f (verdict f)
-  says = verdict-says kept-tells f
+  says : Verdict-says f (verdict f)
+  says = verdict-says f
 
-  refused-first : (o : Option Fault) → Verdict-says kept-tells f o → (l : Law) → answer o ≡ Err (refusal l) → First-broken f l
+  refused-first : (o : Option Fault) → Verdict-says f o → (l : Law) → answer o ≡ Err (refusal l) → First-broken f l
   refused-first None h l e = let z : _≡_ {A = ℕ} 0 1 = cc in absurd (omega arith)
   refused-first (Some x) h l e =
       let q : x ≡ refusal l = cc in
       subst (First-broken f) (sym (same-law l (h .0) (sym q ∙ h .1 .0))) (h .1 .1)
 
-  first-refused : (o : Option Fault) → Verdict-says kept-tells f o → (l : Law) → First-broken f l → answer o ≡ Err (refusal l)
+  first-refused : (o : Option Fault) → Verdict-says f o → (l : Law) → First-broken f l → answer o ≡ Err (refusal l)
   first-refused None h l b = absurd (h l (b .0))
   first-refused (Some x) h l b =
       elim (line l (h .0))
@@ -454,11 +280,11 @@ module _ (f : List ℕ) where
         [ inl e ↦ ap Err (h .1 .0 ∙ ap refusal (sym e))
         | inr e ↦ absurd (b .1 (h .0) e (h .1 .1 .0)) ] ]
 
-  accepted-unbroken : (o : Option Fault) → Verdict-says kept-tells f o → answer o ≡ Ok tt → (l : Law) → Broken f l → ⊥
+  accepted-unbroken : (o : Option Fault) → Verdict-says f o → answer o ≡ Ok tt → (l : Law) → Broken f l → ⊥
   accepted-unbroken None h e = h
   accepted-unbroken (Some x) h e = let z : _≡_ {A = ℕ} 0 1 = cc in absurd (omega arith)
 
-  unbroken-accepted : (o : Option Fault) → Verdict-says kept-tells f o → ((l : Law) → Broken f l → ⊥) → answer o ≡ Ok tt
+  unbroken-accepted : (o : Option Fault) → Verdict-says f o → ((l : Law) → Broken f l → ⊥) → answer o ≡ Ok tt
   unbroken-accepted None h n = refl
   unbroken-accepted (Some x) h n = absurd (n (h .0) (h .1 .1 .0))
 

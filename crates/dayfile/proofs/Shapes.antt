@@ -22,16 +22,11 @@ use Rattle.dayfile.specs.declared.record.RealTimeRecord.{RealTimeRecord}
 use Rattle.dayfile.specs.Layout.{first-fault, table-for}
 use Rattle.dayfile.specs.Records.{body, kind-of}
 use Rattle.dayfile.specs.Writing.{Fitting, record-owned}
+use Rattle.dayfile.specs.WellFormed.{Generator, generator-records, day-records}
 use Rattle.dayfile.specs.Files.{in-order, above, nothing}
 use Rattle.dayfile.proofs.Chains.{own-number, step, Tied, rises, Good, Chain, ends}
 
-abbrev pub Pair : Type 0
-Pair = ResourceRecord × Option RealTimeRecord
-
-abbrev pub pair-records : Pair → List Record
-pair-records u = Resource (u .0) ∷ elim (u .1) [ None ↦ [] | Some r ↦ RealTime r ∷ [] ]
-
-abbrev pub pair-number : Pair → ℕ
+abbrev pub pair-number : Generator → ℕ
 pair-number u = u .0 .number
 
 -- numbers that rise behind a last one
@@ -47,7 +42,7 @@ abbrev pub Read-out : ResourceRecord → Option RealTimeRecord → Type 0
 Read-out g None = Unit {0}
 Read-out g (Some r) = Sound (RealTime r) × (r .number ≡ g .number)
 
-abbrev pub Pair-sound : ℕ → Pair → Type 0
+abbrev pub Pair-sound : ℕ → Generator → Type 0
 Pair-sound limit u = Sound (Resource (u .0)) × (record-owned limit (Resource (u .0)) ≡ true) × Read-out (u .0) (u .1)
 
 -- a Resource waits for its real-time record, or the next Resource is awaited
@@ -56,9 +51,9 @@ Waiting s None = s .kind ≡ Some 82
 Waiting s (Some g) = (s .kind ≡ Some 71) × (s .number ≡ g .number) × Sound (Resource g) × (record-owned (s .participants) (Resource g) ≡ true)
 
 abbrev Rest : Before → Option ResourceRecord → List Record → Type 0
-Rest s None rs = (us : List Pair) × ((rs ≡ joined pair-records us) × All (Pair-sound (s .participants)) us × Rises-behind (s .resource) (map pair-number us))
+Rest s None rs = (us : List Generator) × ((rs ≡ joined generator-records us) × All (Pair-sound (s .participants)) us × Rises-behind (s .resource) (map pair-number us))
 Rest s (Some g) rs =
-    (x : Option RealTimeRecord) × ((us : List Pair) × ((Resource g ∷ rs ≡ pair-records (g, x) ++ joined pair-records us) × Pair-sound (s .participants) (g, x)
+    (x : Option RealTimeRecord) × ((us : List Generator) × ((Resource g ∷ rs ≡ generator-records (g, x) ++ joined generator-records us) × Pair-sound (s .participants) (g, x)
     × All (Pair-sound (s .participants)) us × Rises-behind (s .resource) (map pair-number us)))
 
 wrong : {P : Type 0} (o : Option ℕ) (b c : ℕ) → o ≡ Some b → in-order (Some b) c ≡ false → in-order o c ≡ true → P
@@ -108,8 +103,8 @@ rest (RealTime q ∷ rs) s (Some g) w c =
 -- participants, and Resources behind them
 pub record Phases (s : Before) (rs : List Record) : Type 0 where
   pub ps : List ParticipantRecord
-  pub us : List Pair
-  pub same : rs ≡ map Participant ps ++ joined pair-records us
+  pub us : List Generator
+  pub same : rs ≡ map Participant ps ++ joined generator-records us
   pub sound : All (λ p. Sound (Participant p)) ps
   pub risen : Rises-behind (s .participant) (map (λ p. p .number) ps)
   pub pairs : All (Pair-sound (s .participants + length ps)) us
@@ -151,10 +146,7 @@ phases (Resource g ∷ rs) s o c =
 phases (RealTime q ∷ rs) s o c = unopened s 82 o refl refl (c .0 .follows)
 
 -- a whole day
-abbrev pub day-records : DayRecord → List ParticipantRecord → List Pair → List Record
-day-records d ps us = Day d ∷ (map Participant ps ++ joined pair-records us)
-
-pub record Shaped (d : DayRecord) (ps : List ParticipantRecord) (us : List Pair) : Type 0 where
+pub record Shaped (d : DayRecord) (ps : List ParticipantRecord) (us : List Generator) : Type 0 where
   pub day : Sound (Day d)
   pub sound : All (λ p. Sound (Participant p)) ps
   pub risen : Rises-behind None (map (λ p. p .number) ps)
@@ -164,7 +156,7 @@ pub record Shaped (d : DayRecord) (ps : List ParticipantRecord) (us : List Pair)
 pub record Day-shape (rs : List Record) : Type 0 where
   pub d : DayRecord
   pub ps : List ParticipantRecord
-  pub us : List Pair
+  pub us : List Generator
   pub same : rs ≡ day-records d ps us
   pub shaped : Shaped d ps us
 
@@ -184,7 +176,7 @@ chain-shape (Resource g ∷ rs) l c = first-wrong 71 refl (c .0 .follows)
 chain-shape (RealTime q ∷ rs) l c = first-wrong 82 refl (c .0 .follows)
 
 -- and the other way: such records are a chain
-pair-chain : (us : List Pair) (s : Before) (b : ℕ) → s .kind ≡ Some b → All (Pair-sound (s .participants)) us → Rises-behind (s .resource) (map pair-number us) → Chain s (joined pair-records us)
+pair-chain : (us : List Generator) (s : Before) (b : ℕ) → s .kind ≡ Some b → All (Pair-sound (s .participants)) us → Rises-behind (s .resource) (map pair-number us) → Chain s (joined generator-records us)
 pair-chain [] s b k a r = tt
 pair-chain ((g, None) ∷ us) s b k a r =
     let e = sym (add-zero (s .participants)) in
@@ -206,8 +198,8 @@ opened s o = elim o [ inl e ↦ ap (λ x. in-order x 80) e | inr e ↦ ap (λ x.
 opening-kind : (s : Before) → Opening s → (b : ℕ) × (s .kind ≡ Some b)
 opening-kind s o = elim o [ inl e ↦ (68, e) | inr e ↦ (80, e) ]
 
-part-chain : (ps : List ParticipantRecord) (us : List Pair) (s : Before) → Opening s → All (λ p. Sound (Participant p)) ps → Rises-behind (s .participant) (map (λ p. p .number) ps)
-    → All (Pair-sound (s .participants + length ps)) us → Rises-behind (s .resource) (map pair-number us) → Chain s (map Participant ps ++ joined pair-records us)
+part-chain : (ps : List ParticipantRecord) (us : List Generator) (s : Before) → Opening s → All (λ p. Sound (Participant p)) ps → Rises-behind (s .participant) (map (λ p. p .number) ps)
+    → All (Pair-sound (s .participants + length ps)) us → Rises-behind (s .resource) (map pair-number us) → Chain s (map Participant ps ++ joined generator-records us)
 part-chain [] us s o a r b t =
     let k = opening-kind s o in pair-chain us s (k .0) (k .1) (subst (λ n. All (Pair-sound n) us) (add-zero (s .participants)) b) t
 part-chain (p ∷ ps) us s o a r b t =
@@ -215,13 +207,13 @@ part-chain (p ∷ ps) us s o a r b t =
     ( record { fits = a .0 .0; fields = a .0 .1; follows = opened s o; tied = tt; risen = r .0; shared = refl }
     , part-chain ps us (step s (Participant p)) (inr refl) (a .1) (r .1) (subst (λ n. All (Pair-sound n) us) e b) t )
 
-pub shape-chain : (d : DayRecord) (ps : List ParticipantRecord) (us : List Pair) → Shaped d ps us → Chain nothing (day-records d ps us)
+pub shape-chain : (d : DayRecord) (ps : List ParticipantRecord) (us : List Generator) → Shaped d ps us → Chain nothing (day-records d ps us)
 shape-chain d ps us h =
     ( record { fits = h .day .0; fields = h .day .1; follows = refl; tied = tt; risen = refl; shared = refl }
     , part-chain ps us (step nothing (Day d)) (inl refl) (h .sound) (h .risen) (subst (λ n. All (Pair-sound n) us) (sym (zero-add (length ps))) (h .pairs)) (h .above) )
 
 -- what stands behind a whole day
-ends-pairs : (us : List Pair) (s : Before) → (ends s (joined pair-records us) .participants ≡ s .participants) × (ends s (joined pair-records us) .resources ≡ s .resources + length us)
+ends-pairs : (us : List Generator) (s : Before) → (ends s (joined generator-records us) .participants ≡ s .participants) × (ends s (joined generator-records us) .resources ≡ s .resources + length us)
 ends-pairs [] s = (refl, sym (add-zero (s .resources)))
 ends-pairs ((g, None) ∷ us) s =
     let h = ends-pairs us (step s (Resource g)) in
@@ -240,11 +232,11 @@ ends-counts (p ∷ ps) s =
     let h = ends-counts ps (step s (Participant p)) in
     (omega (arith, h .0), h .1 ∙ add-zero (s .resources))
 
-pub day-ends : (d : DayRecord) (ps : List ParticipantRecord) (us : List Pair)
+pub day-ends : (d : DayRecord) (ps : List ParticipantRecord) (us : List Generator)
     → (ends nothing (day-records d ps us) .participants ≡ length ps) × (ends nothing (day-records d ps us) .resources ≡ length us)
 day-ends d ps us =
     let s = step nothing (Day d) in
-    let e = ends-parts ps (joined pair-records us) s in
+    let e = ends-parts ps (joined generator-records us) s in
     let h = ends-counts ps s in
     let g = ends-pairs us (ends s (map Participant ps)) in
     ( ap (λ (b : Before). b .participants) e ∙ g .0 ∙ h .0 ∙ zero-add (length ps)

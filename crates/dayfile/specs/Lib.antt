@@ -7,5 +7,7 @@ pub mod Files
 pub mod Blocks
 pub mod Widths
 pub mod Writing
+pub mod Keeping
 pub mod Rules
 pub mod Days
+pub mod WellFormed

@@ -4,14 +4,19 @@ use mathlib.Core.Logic.{_⊎_}
 use mathlib.Core.List.{List}
 use Prim.Native.Nat.{ℕ, zero, suc, _+_, _*_, _/_, _%_, _<_, _≤_}
 use lib.ListN.{length, getD, take, drop}
+use Rattle.std.specs.declared.option.Option.{Option}
+use Rattle.std.specs.declared.option.Option.the-variants.{Some, None}
 use Rattle.std.specs.declared.result.Result.{Result}
 use Rattle.std.specs.declared.result.Result.the-variants.{Ok, Err}
 use Rattle.dayfile.specs.declared.fault.Fault.{Fault}
 use Rattle.dayfile.specs.declared.fault.Fault.the-variants.{Length, Check, Order, Field, Rising, Owners, Counts}
+use Rattle.dayfile.specs.declared.record.Record.{Record}
+use Rattle.dayfile.specs.Faults.{number-of}
 use Rattle.dayfile.specs.Bytes.{value, weighed}
 use Rattle.dayfile.specs.Layout.{Faulty, table-for}
 use Rattle.dayfile.specs.Owners.{Owned}
-use Rattle.dayfile.specs.Records.{resource-of}
+use Rattle.dayfile.specs.Records.{resource-of, encode}
+use Rattle.dayfile.specs.Keeping.{Keeps}
 use Rattle.dayfile.specs.Files.{block, blocks, kind, number-in, tally}
 
 -- the rules for one block: its check, its kind and order, the field that starts at a byte, its number, its owners
@@ -70,11 +75,7 @@ Broken f counts = (tally 80 f (blocks f) ≡ getD f 10 0 → ⊥) ⊎ (tally 71 
 
 -- the order of the rules for a block: by the refusals' numbers, and fields by the byte at which they start
 abbrev pub turn : Rule → ℕ
-turn check = 2
-turn order = 3
-turn (field p) = 4
-turn number = 5
-turn owners = 6
+turn r = number-of (refusal (at 0 r))
 
 abbrev pub byte : Rule → ℕ
 byte check = 0
@@ -102,6 +103,18 @@ Earlier counts counts = ⊥
 abbrev pub First-broken : List ℕ → Law → Type 0
 First-broken f l = Broken f l × ((m : Law) → Earlier m l → Broken f m → ⊥)
 
+-- WHAT BREAKS A RULE in a block by itself: any of the four letters may stand there, and any number within its limits
+abbrev pub Breaks-alone : List ℕ → Rule → Type 0
+Breaks-alone b check = value 508 4 b ≡ weighed 0 (take 508 b) → ⊥
+Breaks-alone b order = (getD b 0 0 ≡ 68) ⊎ ((getD b 0 0 ≡ 80) ⊎ ((getD b 0 0 ≡ 71) ⊎ (getD b 0 0 ≡ 82))) → ⊥
+Breaks-alone b (field p) = Faulty (table-for (getD b 0 0)) b p
+Breaks-alone b number = ⊥
+Breaks-alone b owners = (getD b 0 0 ≡ 71) × (Owned 48 (resource-of b .«owner_count») (resource-of b .owners) → ⊥)
+
+-- a rule for a block is broken, and none that comes sooner is
+abbrev pub First : (Rule → Type 0) → Rule → Type 0
+First B r = B r × ((q : Rule) → Sooner q r → B q → ⊥)
+
 -- each follows from the other
 abbrev pub Just-where : Type 0 → Type 0 → Type 0
 Just-where P Q = (P → Q) × (Q → P)
@@ -111,3 +124,15 @@ Just-where P Q = (P → Q) × (Q → P)
 pub record Ruled (f : List ℕ) (answer : Result (Unit {0}) Fault) : Type 0 where
   pub refused : (l : Law) → Just-where (answer ≡ Err (refusal l)) (First-broken f l)
   pub accepted : Just-where (answer ≡ Ok tt) ((l : Law) → Broken f l → ⊥)
+
+-- the fault in an answer, if it is refused
+abbrev pub fault-in : {A : Type 0} → Result A Fault → Option Fault
+fault-in (Ok x) = None
+fault-in (Err f) = Some f
+
+-- A BLOCK BY ITSELF IS REFUSED just for the first rule that it breaks, and read just where it breaks none,
+-- which is where it is the block of a record that keeps its limits, owners' places lying below 48
+pub record Ruled-alone (b : List ℕ) (fault : Option Fault) : Type 0 where
+  pub refused : (r : Rule) → Just-where (fault ≡ Some (refusal (at 0 r))) (First (Breaks-alone b) r)
+  pub unbroken : Just-where (fault ≡ None) ((r : Rule) → Breaks-alone b r → ⊥)
+  pub encodes : Just-where (fault ≡ None) ((r : Record) × (Keeps 48 r × (encode r ≡ b)))

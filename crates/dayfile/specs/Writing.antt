@@ -2,7 +2,7 @@
 use mathlib.Core.Path.{_≡_}
 use mathlib.Core.List.{List, [], _∷_, _++_}
 use mathlib.Core.Bool.{Bool, true, false, cond}
-use Prim.Native.Nat.{ℕ, _+_, _<_, _^_}
+use Prim.Native.Nat.{ℕ, _+_, _<_, _≤_, _^_}
 use lib.Dec.{ltb}
 use lib.ListN.{length, drop}
 use mir.Syntax.{w32}
@@ -19,8 +19,10 @@ use Rattle.dayfile.specs.declared.record.Record.the-variants.{Day, Participant
 use Rattle.dayfile.specs.declared.record.Load.{Load}
 use Rattle.dayfile.specs.declared.record.Owner.{Owner}
 use Rattle.dayfile.specs.declared.record.RealTimeHour.{RealTimeHour}
-use Rattle.dayfile.specs.Layout.{first-fault, table-for}
-use Rattle.dayfile.specs.Owners.{owners-kept}
+use Rattle.dayfile.specs.Layout.{first-fault, table-for, Faulty}
+use Rattle.dayfile.specs.Owners.{Owned, owners-kept}
+use Rattle.dayfile.specs.Keeping.{Keeps}
+use Rattle.dayfile.specs.Rules.{Just-where}
 use Rattle.dayfile.specs.Records.{body, encode, kind-of}
 
 -- what any value of a record's type is: its numbers fit their widths, its rows have their lengths
@@ -73,3 +75,18 @@ Done None was done answer after = (answer ≡ Ok tt) × (after ≡ done)
 -- A RECORD WRITTEN: the buffer begins with its block, and the rest stays
 abbrev pub Writes : Record → List ℕ → Result (Unit {0}) Fault → List ℕ → Type 0
 Writes r was answer after = Done (unwritten r (length was)) was (encode r ++ drop 512 was) answer after
+
+-- a record's owners keep their rules, the places lying below 48; only a Resource has owners
+abbrev pub Shared-out : Record → Type 0
+Shared-out (Day d) = Unit {0}
+Shared-out (Participant p) = Unit {0}
+Shared-out (Resource g) = Owned 48 (g .«owner_count») (g .owners)
+Shared-out (RealTime r) = Unit {0}
+
+-- A RECORD IS WRITTEN just where it keeps its limits and there is room for a block; it is refused for its first faulty field,
+-- for its owners where no field is faulty, and for the room where it keeps its limits
+pub record Written-only (r : Record) (room : ℕ) (answer : Result (Unit {0}) Fault) : Type 0 where
+  pub written : Just-where (answer ≡ Ok tt) (Keeps 48 r × (512 ≤ room))
+  pub field : (p : ℕ) → Just-where (answer ≡ Err (RecordField p)) (Faulty (table-for (kind-of r)) (body r) p × ((q : ℕ) → q < p → Faulty (table-for (kind-of r)) (body r) q → ⊥))
+  pub owners : Just-where (answer ≡ Err RecordOwners) (((p : ℕ) → Faulty (table-for (kind-of r)) (body r) p → ⊥) × (Shared-out r → ⊥))
+  pub short : Just-where (answer ≡ Err Room) (Keeps 48 r × (room < 512))

@@ -4,7 +4,11 @@ ghost use Prim.Native.Nat.{ℕ, _+_, _-_, _*_, _/_, _%_, _^_, _<_, _≤_};
 ghost use lib.ListN.{length, getD, set, take, drop};
 ghost use denote.Ref.{now};
 ghost use mathlib.Core.Bool.{true};
+ghost use mathlib.Core.List.{List};
+ghost use Rattle.dayfile.specs.declared.record.DayRecord.{DayRecord};
+ghost use Rattle.dayfile.specs.declared.record.ParticipantRecord.{ParticipantRecord};
 ghost use Rattle.dayfile.specs.Files.{accepted};
+ghost use Rattle.dayfile.specs.WellFormed.{Generator, Encodes};
 
 /// A day whose file was admitted; it borrows the file.
 #[derive(Clone, Copy)]
@@ -12,6 +16,17 @@ pub struct AdmittedDay<'f> {
     pub(crate) file: &'f [u8],
     ghost kept: { accepted (now file) ≡ true },
     ghost bytes: { ((i : ℕ) → getD (now file) i 0 < 256) },
+}
+
+impl<'f> AdmittedDay<'f> {
+    /// The file.
+    pub fn file(&self) -> &'f [u8]
+        ensures value { λ r. ⌜ now r ≡ now (now (self .entry) .file) ⌝ }
+        ensures accepted { λ r. ⌜ accepted (now r) ≡ true ⌝ }
+        ensures well_formed { λ r. ⌜ ((d : DayRecord) × ((ps : List ParticipantRecord) × ((gs : List Generator) × Encodes (now r) d ps gs))) ⌝ }
+    {
+        self.file
+    }
 }
 
 /// The bytes of the built-in day: a day block and a participant block with every field least.

@@ -8,7 +8,8 @@ ghost use Rattle.std.specs.declared.option.Option.the-variants.{Some, None};
 ghost use Rattle.dayfile.specs.Blocks.{Shows, shown};
 ghost use Rattle.dayfile.specs.Records.{record-of, encode};
 ghost use Rattle.dayfile.specs.Files.{verdict, answer, block, blocks, kind, counted, end-fault, standing, behind, lone-fault};
-ghost use Rattle.dayfile.specs.Rules.{Ruled};
+ghost use Rattle.dayfile.specs.Rules.{Ruled, Ruled-alone, fault-in};
+ghost use Rattle.dayfile.specs.WellFormed.{Well-formed-only};
 use crate::before::Before;
 use crate::block::Block;
 use crate::day::AdmittedDay;
@@ -24,8 +25,9 @@ pub const LONGEST: usize = 65_536;
 /// Puts the day of a file into the caller's place, or says why not and leaves the place as it was.
 pub fn admit<'f>(file: &'f [u8], day: &mut AdmittedDay<'f>) -> Result<(), Fault>
     ensures verdict { λ r. ⌜ r ≡ answer (verdict (now (file .entry))) ⌝ }
-    ensures rules { λ r. ⌜ Ruled (now (file .entry)) r ⌝ }
-    ensures place { λ r. ⌜ ByOk r (λ _. now (now (day .exit) .file) ≡ now (file .entry)) (λ _. now (day .exit) ≡ now (day .entry)) ⌝ }
+    ensures first_broken_rule_told { λ r. ⌜ Ruled (now (file .entry)) r ⌝ }
+    ensures accepted_just_if_well_formed { λ r. ⌜ Well-formed-only (now (file .entry)) r ⌝ }
+    ensures place_filled_or_kept { λ r. ⌜ ByOk r (λ _. now (now (day .exit) .file) ≡ now (file .entry)) (λ _. now (day .exit) ≡ now (day .entry)) ⌝ }
 {
     judge_file(file)?;
     *day = AdmittedDay { file };
@@ -68,11 +70,15 @@ pub(crate) fn block_at(file: &[u8], k: usize) -> &[u8]
 
 /// The parts of a block by itself, or the fault.
 pub fn read_block<'f>(block: &'f [u8; 512]) -> Result<Block<'f>, Fault>
-    ensures { λ r. ⌜ ByOk r (λ b. (lone-fault (now (block .entry)) ≡ None) × Shows (now (block .entry)) b × (shown b ≡ record-of (now (block .entry))) × (encode (shown b) ≡ now (block .entry))) (λ f. lone-fault (now (block .entry)) ≡ Some f) ⌝ }
+    ensures verdict { λ r. ⌜ fault-in r ≡ lone-fault (now (block .entry)) ⌝ }
+    ensures first_broken_rule_told { λ r. ⌜ Ruled-alone (now (block .entry)) (fault-in r) ⌝ }
+    ensures shows_its_parts { λ r. ⌜ ByOk r (λ b. Shows (now (block .entry)) b × (shown b ≡ record-of (now (block .entry)))) (λ _. Unit {0}) ⌝ }
+    ensures encoded_again { λ r. ⌜ ByOk r (λ b. encode (shown b) ≡ now (block .entry)) (λ _. Unit {0}) ⌝ }
 {
     judge_alone(block)?;
     match parts(block) {
         Some(parts) => Ok(parts),
+        // does not happen: the kind of a block without a fault is known
         None => Err(Fault::Order { block: 0 }),
     }
 }

@@ -13,11 +13,9 @@ use crate::layout::check_of;
 use crate::layout::earlier_of;
 use crate::layout::field_fault;
 use crate::layout::table_for;
+use crate::owners::PLACES;
 use crate::owners::kept;
 use crate::read::read_owners;
-
-/// The participants that a block by itself may name: places below 48.
-const PLACES: usize = 48;
 
 /// Whether a block's check is the sum over its bytes.
 fn is_checked(block: &[u8]) -> bool

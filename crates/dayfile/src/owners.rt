@@ -1,11 +1,14 @@
 //! The owners of a Resource.
 ghost use mathlib.Core.Path.{_≡_};
 ghost use mathlib.Core.Bool.{_&&_};
-ghost use Prim.Native.Nat.{ℕ, _+_, _-_, _*_, _/_, _%_, _^_, _<_, _≤_};
-ghost use lib.ListN.{length, getD, set, take, drop};
+ghost use Prim.Native.Nat.{_^_, _<_};
+ghost use lib.ListN.{length};
 ghost use lib.Dec.{eqb};
 ghost use Rattle.dayfile.specs.Owners.{placed, parts-of, vacant, owners-kept};
 use crate::record::Owner;
+
+/// The participants that a day can count: a block by itself may name their places, 0 to 47.
+pub(crate) const PLACES: usize = 48;
 
 /// What all owners' parts add up to.
 const WHOLE: u64 = 1_000_000;

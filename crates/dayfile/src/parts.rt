@@ -1,11 +1,11 @@
 //! The parts of records that stand several times in a row: how each is read and written.
-ghost use mathlib.Core.Path.{_≡_, refl};
-ghost use Prim.Native.Nat.{ℕ, _+_, _-_, _*_, _/_, _%_, _^_, _<_, _≤_};
-ghost use lib.ListN.{length, getD, set, take, drop};
+ghost use mathlib.Core.Path.{_≡_};
+ghost use Prim.Native.Nat.{_+_, _^_, _<_, _≤_};
+ghost use lib.ListN.{length};
 ghost use denote.Ref.{now};
 ghost use mir.Syntax.{w32};
 ghost use mir.Val.{SFits, ofZ};
-ghost use Rattle.dayfile.specs.Bytes.{value, digits, laid};
+ghost use Rattle.dayfile.specs.Bytes.{digits, laid};
 ghost use Rattle.dayfile.specs.Records.{word-bytes, word-from, signed-bytes, signed-from, flag-number, flag-named, flag-bytes, flag-from, event-number, event-named, event-bytes, event-from, load-bytes, load-from, owner-bytes, owner-from, hour-bytes, hour-from};
 ghost use Rattle.dayfile.specs.Widths.{word-long, signed-long, flag-long, event-long, load-long, owner-long, hour-long, four, one, twelve, six};
 ghost use Rattle.dayfile.specs.Writing.{Load-fits, Owner-fits, Hour-fits};
@@ -32,7 +32,7 @@ pub(crate) fn write_number(block: &mut [u8], at: usize, width: usize, number: u3
     }
 }
 
-/// A byte's number, which fits it: the caller then knows that.
+/// A byte as a number. Its contract tells that it fits a byte, which a caller does not know of a field behind a reference.
 pub(crate) fn octet(n: u8) -> u32
     ensures same { λ r. ⌜ r ≡ n ⌝ }
     ensures sound { λ _. ⌜ n < 256 ⌝ }
@@ -40,7 +40,7 @@ pub(crate) fn octet(n: u8) -> u32
     n as u32
 }
 
-/// The same of a number of two bytes.
+/// A number of two bytes, likewise.
 pub(crate) fn half(n: u16) -> u32
     ensures same { λ r. ⌜ r ≡ n ⌝ }
     ensures sound { λ _. ⌜ n < 2 ^ 16 ⌝ }
@@ -48,7 +48,7 @@ pub(crate) fn half(n: u16) -> u32
     n as u32
 }
 
-/// The same of a signed number: its bits in two's complement.
+/// The bits of a signed number in two's complement, likewise.
 fn bits(n: i32) -> u32
     ensures same { λ r. ⌜ r ≡ ofZ w32 n ⌝ }
     ensures sound { λ _. ⌜ SFits w32 n ⌝ }

@@ -1,12 +1,9 @@
 //! Reading a block: its parts, and the record that they say.
 ghost use mathlib.Core.Path.{_≡_};
 ghost use mathlib.Core.Bool.{false, true};
-ghost use Prim.Native.Nat.{ℕ, _+_, _-_, _*_, _/_, _%_, _^_, _<_, _≤_};
-ghost use lib.ListN.{length, getD, set, take, drop};
+ghost use lib.ListN.{length, getD};
 ghost use Rattle.std.specs.Options.{Cases as BySome};
-ghost use Rattle.std.specs.Results.{Cases as ByOk};
-ghost use Rattle.std.specs.declared.option.Option.the-variants.{Some, None};
-ghost use Rattle.dayfile.specs.Files.{lone-fault, known};
+ghost use Rattle.dayfile.specs.Files.{known};
 ghost use Rattle.dayfile.specs.Bytes.{each};
 ghost use Rattle.dayfile.specs.Records.{day-from, word-from, signed-from, flag-from, event-from, load-from, owner-from, hour-from};
 ghost use Rattle.dayfile.specs.Blocks.{Shows, shown};

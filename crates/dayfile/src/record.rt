@@ -29,7 +29,7 @@ pub struct Load {
 #[derive(Clone, Copy)]
 pub struct ParticipantRecord {
     pub number: u32,
-    pub loads: [Load; 8],
+    pub loads: [Load; REGIONS],
     pub network_load: u32,
     /// The weight for Special Constraint Resources.
     pub scr_weight: u32,
@@ -63,15 +63,15 @@ pub struct ResourceRecord {
     pub number: u32,
     pub start_up_cents: u32,
     pub no_load_cents: u32,
-    pub prices: [i32; 24],
+    pub prices: [i32; HOURS],
     pub hours_on_line: u8,
     pub owner_count: u8,
     /// Bit 0 is hour 1.
     pub self_scheduled: u32,
-    pub owners: [Owner; 8],
-    pub cleared_kwh: [u32; 24],
-    pub lmps: [i32; 24],
-    pub flags: [Flag; 24],
+    pub owners: [Owner; OWNERS],
+    pub cleared_kwh: [u32; HOURS],
+    pub lmps: [i32; HOURS],
+    pub flags: [Flag; HOURS],
 }
 
 /// What happened to a Resource in an hour.
@@ -98,9 +98,9 @@ pub struct RealTimeHour {
 pub struct RealTimeRecord {
     pub number: u32,
     pub economic_minimum_kwh: u32,
-    pub hours: [RealTimeHour; 24],
-    pub events: [Event; 24],
-    pub flags: [Flag; 24],
+    pub hours: [RealTimeHour; HOURS],
+    pub events: [Event; HOURS],
+    pub flags: [Flag; HOURS],
 }
 
 /// A record of any of the four kinds.

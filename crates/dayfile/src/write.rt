@@ -1,18 +1,21 @@
 //! Writing a record as a block.
 ghost use mathlib.Core.Path.{_≡_};
 ghost use mathlib.Core.List.{_++_};
-ghost use Prim.Native.Nat.{ℕ, _+_, _-_, _*_, _/_, _%_, _^_, _<_, _≤_};
-ghost use lib.ListN.{length, getD, set, take, drop};
+ghost use Prim.Native.Nat.{_≤_};
+ghost use lib.ListN.{length, take, drop};
 ghost use Rattle.dayfile.specs.declared.record.Record.the-variants.{Day, Participant, Resource, RealTime};
 ghost use Rattle.dayfile.specs.Bytes.{zeros};
-ghost use Rattle.dayfile.specs.Records.{record-of, encode, body, day-body, participant-body, resource-body, real-time-body, sealed, kind-of};
-ghost use Rattle.dayfile.specs.Writing.{Fitting, unwritten, Writes};
-ghost use Rattle.dayfile.specs.Files.{answer};
+ghost use Rattle.dayfile.specs.Records.{record-of, encode, body, day-body, participant-body, resource-body, real-time-body, sealed};
+ghost use Rattle.dayfile.specs.Writing.{Fitting, unwritten, Writes, Written-only};
+ghost use Rattle.std.specs.Results.{Cases as ByOk};
+ghost use Rattle.std.specs.declared.option.Option.the-variants.{None};
+ghost use Rattle.dayfile.specs.Files.{answer, lone-fault};
 use crate::bytes::write_parts;
 use crate::fault::Fault;
 use crate::layout::check_of;
 use crate::layout::field_fault;
 use crate::layout::table_for;
+use crate::owners::PLACES;
 use crate::owners::kept;
 use crate::parts::EventPart;
 use crate::parts::FlagPart;
@@ -30,13 +33,12 @@ use crate::record::RealTimeRecord;
 use crate::record::Record;
 use crate::record::ResourceRecord;
 
-/// The participants that a block by itself may name: places below 48.
-const PLACES: usize = 48;
-
 /// Writes a record as a block of 512 bytes at the front of a buffer, or says why not and leaves the buffer as it was.
 pub fn write_record(rec: &Record, out: &mut [u8]) -> Result<(), Fault>
-    ensures call { λ r. ⌜ Writes (now (rec .entry)) (now (out .entry)) r (now (out .exit)) ⌝ }
-    ensures back { λ _. ⌜ record-of (encode (now (rec .entry))) ≡ now (rec .entry) ⌝ }
+    ensures written_or_untouched { λ r. ⌜ Writes (now (rec .entry)) (now (out .entry)) r (now (out .exit)) ⌝ }
+    ensures refused_just_for { λ r. ⌜ Written-only (now (rec .entry)) (length (now (out .entry))) r ⌝ }
+    ensures reads_back { λ r. ⌜ ByOk r (λ _. (lone-fault (take 512 (now (out .exit))) ≡ None) × (record-of (take 512 (now (out .exit))) ≡ now (rec .entry))) (λ _. Unit {0}) ⌝ }
+    ensures any_record_decodes { λ _. ⌜ record-of (encode (now (rec .entry))) ≡ now (rec .entry) ⌝ }
 {
     let block = compose(rec);
     refuse(rec, &block, out.len())?;
@@ -64,7 +66,7 @@ fn compose(rec: &Record) -> [u8; 512]
 
 /// Says why a record that makes this block is not written into so much room.
 fn refuse(rec: &Record, block: &[u8], room: usize) -> Result<(), Fault>
-    requires { ⌜ length (now block) ≡ 512 ⌝ ∗ ⌜ take 508 (now block) ≡ body (now rec) ⌝ ∗ ⌜ Fitting (now rec) ⌝ }
+    requires { ⌜ length (now block) ≡ 512 ⌝ ∗ ⌜ take 508 (now block) ≡ body (now rec) ⌝ }
     ensures value { λ r. ⌜ r ≡ answer (unwritten (now (rec .entry)) room) ⌝ }
 {
     if let Some(byte) = field_fault(table_for(block[0]), block) {

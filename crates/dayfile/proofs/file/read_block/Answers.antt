@@ -1,5 +1,5 @@
 use native.Mathlib.Omega.{arith}
-use mathlib.Core.Path.{_≡_, refl, sym, ap, _∙_}
+use mathlib.Core.Path.{_≡_, refl, sym, ap, _∙_, subst}
 use mathlib.Core.Bool.{true, false}
 use Prim.Native.Nat.{ℕ, _<_}
 use lib.ListN.{length, getD}
@@ -10,14 +10,18 @@ use Rattle.dayfile.specs.Records.{encode}
 use Rattle.dayfile.specs.Files.{lone-fault, answer, known}
 use Rattle.dayfile.proofs.Walks.{answer-ok, answer-err}
 use Rattle.dayfile.proofs.Rounds.{shown-is}
+use Rattle.dayfile.specs.Rules.{Ruled-alone}
 use Rattle.dayfile.proofs.Chains.{lone-again, lone-known}
+use Rattle.dayfile.proofs.LoneLaws.{ruled-alone}
 use Rattle.dayfile.proofs.file.read_block.Needs as need
 
 pub returns-in-Break-judge-alone : need.returns-in-Break-judge-alone
 returns-in-Break-judge-alone c =
     let b = c .args .block .now in
+    let l : length (c .args .block .now) ≡ 512 = search needs in
     let p = err-from-errBy (c .from-residual .result) (c .from-residual .ensures .1) in
-    rw (p .1, p .2) (answer-err (lone-fault b) (c .in-Break-judge-alone .field-0 .0) (sym (c .judge-alone .ensures) ∙ c .in-Break-judge-alone .was tt))
+    let v = sym (answer-err (lone-fault b) (c .in-Break-judge-alone .field-0 .0) (sym (c .judge-alone .ensures) ∙ c .in-Break-judge-alone .was tt)) in
+    rw (p .1, p .2) (record { verdict = v; first-broken-rule-told = subst (Ruled-alone b) (sym v) (ruled-alone b l (c .fits-block)); shows-its-parts = tt; encoded-again = tt })
 
 pub returns-in-Some : need.returns-in-Some
 returns-in-Some c =
@@ -26,7 +30,11 @@ returns-in-Some c =
     let n = answer-ok (lone-fault b) (sym (c .judge-alone .ensures) ∙ c .in-Continue-judge-alone .was tt) in
     let s = c .in-Some .ensures tt .1 in
     let e = shown-is b (c .in-Some .parts) s in
-    (n, s, e, ap encode e ∙ lone-again b l (c .fits-block) n)
+    record
+      { verdict = sym n
+      ; first-broken-rule-told = subst (Ruled-alone b) n (ruled-alone b l (c .fits-block))
+      ; shows-its-parts = (s, e)
+      ; encoded-again = ap encode e ∙ lone-again b l (c .fits-block) n }
 
 pub returns-in-None : need.returns-in-None
 returns-in-None c =

@@ -1,6 +1,6 @@
 use native.Mathlib.Omega.{arith}
 use borrow.Author.Needs.{needs}
-use mathlib.Core.Path.{_≡_, sym, _∙_}
+use mathlib.Core.Path.{sym, _∙_}
 use Prim.Native.Nat.{_+_, _-_}
 use Rattle.dayfile.proofs.Digits.{digits-more, digits-end}
 use Rattle.dayfile.proofs.parts.write_number.Needs as need

@@ -10,19 +10,19 @@ use Rattle.dayfile.proofs.write.refuse.Needs.{in-Resource·else-not-kept, in-r
 pub returns-in-Some : need.returns-in-Some
 returns-in-Some c =
     let r = c .args .rec .now in
-    let f = found r (c .args .block .now) (c .table-for .result .now) (Some (c .in-Some .byte)) (c .in-Some .ensures tt) (c .table-for .ensures .table) (c .pre .1 .0) in
+    let f = found r (c .args .block .now) (c .table-for .result .now) (Some (c .in-Some .byte)) (c .in-Some .ensures tt) (c .table-for .ensures .table) (c .pre .1) in
     record { value = sym (ap answer (refused-field r (c .args .room) (c .in-Some .byte) f)) }
 
 pub returns-then-not-kept : need.returns-then-not-kept
 returns-then-not-kept c =
     let r = c .args .rec .now in
-    let f = found r (c .args .block .now) (c .table-for .result .now) None (c .in-rest .ensures tt) (c .table-for .ensures .table) (c .pre .1 .0) in
+    let f = found r (c .args .block .now) (c .table-for .result .now) None (c .in-rest .ensures tt) (c .table-for .ensures .table) (c .pre .1) in
     record { value = sym (ap answer (refused-owners r (c .args .room) f (ap (record-owned 48) (c .in-Resource .is) ∙ sym (c .if-not-kept .ensures tt)))) }
 
 pub returns-then-room-lt512 : need.returns-then-room-lt512
 returns-then-room-lt512 c =
     let r = c .args .rec .now in
-    let f = found r (c .args .block .now) (c .table-for .result .now) None (c .in-rest .ensures tt) (c .table-for .ensures .table) (c .pre .1 .0) in
+    let f = found r (c .args .block .now) (c .table-for .result .now) None (c .in-rest .ensures tt) (c .table-for .ensures .table) (c .pre .1) in
     let o : record-owned 48 (c .args .rec .now) ≡ true =
         elim (c .match-rec .came)
         [ in-Resource·else-not-kept w ↦ ap (record-owned 48) (w .in-Resource .is) ∙ sym (w .if-not-kept .ensures tt)
@@ -32,7 +32,7 @@ returns-then-room-lt512 c =
 pub returns-else-room-lt512 : need.returns-else-room-lt512
 returns-else-room-lt512 c =
     let r = c .args .rec .now in
-    let f = found r (c .args .block .now) (c .table-for .result .now) None (c .in-rest .ensures tt) (c .table-for .ensures .table) (c .pre .1 .0) in
+    let f = found r (c .args .block .now) (c .table-for .result .now) None (c .in-rest .ensures tt) (c .table-for .ensures .table) (c .pre .1) in
     let o : record-owned 48 (c .args .rec .now) ≡ true =
         elim (c .match-rec .came)
         [ in-Resource·else-not-kept w ↦ ap (record-owned 48) (w .in-Resource .is) ∙ sym (w .if-not-kept .ensures tt)

@@ -34,4 +34,4 @@ ghost-result c = (refl, (bytes-all (joined encode built-in) refl, tt))
 
 pub returns : need.returns
 unfolding workings
-returns c = refl
+returns c = record { records = refl; file = refl }

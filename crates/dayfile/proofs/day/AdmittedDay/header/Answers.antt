@@ -1,7 +1,9 @@
 use native.Mathlib.Omega.{arith}
 use mathlib.Core.Path.{_≡_, refl, sym, ap, _∙_}
 use Rattle.dayfile.specs.Records.{day-from, part}
-use Rattle.dayfile.proofs.FileLaws.{accepted-none, passed, some-block}
+use Rattle.std.specs.declared.option.Option.the-variants.{Some}
+use Rattle.dayfile.specs.declared.record.Record.the-variants.{Day}
+use Rattle.dayfile.proofs.FileLaws.{accepted-none, passed, some-block, first-record}
 use Rattle.dayfile.proofs.day.AdmittedDay.header.Needs as need
 
 pub block-at-requires : need.block-at-requires
@@ -10,4 +12,7 @@ block-at-requires c κs =
     omega (arith, some-block f (passed f (accepted-none f (c .args .self .now .kept))))
 
 pub returns : need.returns
-returns c = c .read-day .ensures ∙ ap (λ b. day-from (part 4 8 b)) (c .block-at .ensures .value)
+returns c =
+    let f = c .args .self .now .file .now in
+    let v = c .read-day .ensures ∙ ap (λ b. day-from (part 4 8 b)) (c .block-at .ensures .value) in
+    record { value = v; first-record = first-record f (passed f (accepted-none f (c .args .self .now .kept))) ∙ ap (λ d. Some (Day d)) (sym v) }

@@ -1,4 +1,3 @@
-use mathlib.Core.Path.{ap, _∙_}
 use Rattle.dayfile.proofs.Numbers.{value-drop}
 use Rattle.dayfile.proofs.parts.OwnerPart.read.Needs as need
 

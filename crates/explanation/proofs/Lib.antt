@@ -1,0 +1,6 @@
+mod Cuts
+mod Sums
+mod Standing
+mod Slots
+mod Rules
+mod Rows
