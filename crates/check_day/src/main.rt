@@ -19,7 +19,11 @@ const READ: u64 = LONGEST as u64 + 1;
 
 fn main(rt: LibcRuntime) -> Result<(), AnyError> {
     let accepted = rt.report(check_input(&rt))?;
-    if accepted { Ok(()) } else { Err("refused".into()) }
+    if accepted {
+        Ok(())
+    } else {
+        Err("refused".into())
+    }
 }
 
 /// Checks the file on standard input, prints the answer, and says whether the file is accepted.
@@ -39,7 +43,12 @@ fn check_input(rt: &LibcRuntime) -> Result<bool, AnyError> {
 }
 
 fn print_day(rt: &impl Print, day: DayRecord) -> io::Result<()> {
-    let DayRecord { date, version, participants, resources } = day;
+    let DayRecord {
+        date,
+        version,
+        participants,
+        resources,
+    } = day;
     println!(rt, "accepted")?;
     println!(rt, "day {date} version {version}")?;
     println!(rt, "participants {participants}")?;

@@ -19,11 +19,20 @@ use std::fmt;
 #[derive(Clone, Copy)]
 pub enum Answer {
     /// A file is admitted; `same` if its day written back is the file.
-    Accepted { day: DayRecord, digest: u32, same: bool },
+    Accepted {
+        day: DayRecord,
+        digest: u32,
+        same: bool,
+    },
     /// A block by itself is read.
-    Shows { kind: char, digest: u32 },
+    Shows {
+        kind: char,
+        digest: u32,
+    },
     /// A record is written.
-    Written { digest: u32 },
+    Written {
+        digest: u32,
+    },
     Refused(Fault),
 }
 
@@ -51,7 +60,11 @@ fn answer_file(file: &[u8], out: &mut [u8]) -> Result<Answer, Fault> {
         }
     }
     write_day(&day, out)?;
-    Ok(Answer::Accepted { day: day.header(), digest: digest.value, same: begins_with(out, file) })
+    Ok(Answer::Accepted {
+        day: day.header(),
+        digest: digest.value,
+        same: begins_with(out, file),
+    })
 }
 
 /// Whether a buffer begins with the bytes of a file.
@@ -69,7 +82,10 @@ fn answer_block(block: &[u8]) -> Result<Answer, Fault> {
     let record = read_block(&whole)?.record();
     let mut digest = Digest::new();
     digest.add_record(&record);
-    Ok(Answer::Shows { kind: letter_of(&record), digest: digest.value })
+    Ok(Answer::Shows {
+        kind: letter_of(&record),
+        digest: digest.value,
+    })
 }
 
 /// The letter with which a record's block begins.
@@ -88,16 +104,26 @@ fn answer_record(record: &Record, room: usize, out: &mut [u8]) -> Result<Answer,
     write_record(record, &mut out[0..room])?;
     let mut digest = Digest::new();
     digest.add_all(&out[0..room.min(BLOCK)]);
-    Ok(Answer::Written { digest: digest.value })
+    Ok(Answer::Written {
+        digest: digest.value,
+    })
 }
 
 pub impl fmt::Display for Answer as AnswerDisplay {
     fn fmt<W: fmt::Write>(&self, f: &mut fmt::Formatter<W>) -> fmt::Result {
         match *self {
             Answer::Accepted { day, digest, same } => {
-                let DayRecord { date, version, participants, resources } = day;
+                let DayRecord {
+                    date,
+                    version,
+                    participants,
+                    resources,
+                } = day;
                 let same = if same { "same" } else { "other" };
-                write!(f, "accepted {date} {version} {participants} {resources} {digest} {same}")
+                write!(
+                    f,
+                    "accepted {date} {version} {participants} {resources} {digest} {same}"
+                )
             }
             Answer::Shows { kind, digest } => write!(f, "shows {kind} {digest}"),
             Answer::Written { digest } => write!(f, "written {digest}"),

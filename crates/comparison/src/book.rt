@@ -20,7 +20,10 @@ pub enum Case<'r> {
 }
 
 /// The next case, if there is one. A file or a block is made in `room`.
-pub fn next_case<'r>(book: &mut Reader<'_>, room: &'r mut [u8]) -> Result<Option<Case<'r>>, BadBook> {
+pub fn next_case<'r>(
+    book: &mut Reader<'_>,
+    room: &'r mut [u8],
+) -> Result<Option<Case<'r>>, BadBook> {
     if book.is_empty() {
         return Ok(None);
     }

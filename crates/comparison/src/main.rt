@@ -25,14 +25,24 @@ fn main(rt: LibcRuntime) -> Result<(), AnyError> {
 fn run(rt: &LibcRuntime) -> Result<(), AnyError> {
     let cases = fs::read(rt, CASES)?;
     let mut lines = String::new(rt.alloc());
-    answer_all(cases.as_slice(), &mut [0; LONGEST], &mut [0; LONGEST], &mut lines)?;
+    answer_all(
+        cases.as_slice(),
+        &mut [0; LONGEST],
+        &mut [0; LONGEST],
+        &mut lines,
+    )?;
     rt.print(lines.as_str())?;
     Ok(())
 }
 
 /// Writes a line for each case: its number from 0, and the engine's answer.
 /// A case's file is made in `file`, and `out` is room for what the engine writes.
-fn answer_all(cases: &[u8], file: &mut [u8], out: &mut [u8], lines: &mut String) -> Result<(), AnyError> {
+fn answer_all(
+    cases: &[u8],
+    file: &mut [u8],
+    out: &mut [u8],
+    lines: &mut String,
+) -> Result<(), AnyError> {
     let mut book = Reader::new(cases);
     for number in 0..cases.len() {
         let Some(case) = next_case(&mut book, file)? else {

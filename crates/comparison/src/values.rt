@@ -99,9 +99,17 @@ fn read_prices(book: &mut Reader<'_>) -> Result<[i32; 24], BadBook> {
 }
 
 fn read_loads(book: &mut Reader<'_>) -> Result<[Load; 8], BadBook> {
-    let mut loads = [Load { day_ahead: 0, real_time: 0, deviation: 0 }; 8];
+    let mut loads = [Load {
+        day_ahead: 0,
+        real_time: 0,
+        deviation: 0,
+    }; 8];
     for load in loads.iter_mut() {
-        *load = Load { day_ahead: book.word()?, real_time: book.word()?, deviation: book.word()? };
+        *load = Load {
+            day_ahead: book.word()?,
+            real_time: book.word()?,
+            deviation: book.word()?,
+        };
     }
     Ok(loads)
 }
@@ -109,15 +117,26 @@ fn read_loads(book: &mut Reader<'_>) -> Result<[Load; 8], BadBook> {
 fn read_owners(book: &mut Reader<'_>) -> Result<[Owner; 8], BadBook> {
     let mut owners = [Owner { place: 0, parts: 0 }; 8];
     for owner in owners.iter_mut() {
-        *owner = Owner { place: read_half(book)?, parts: book.word()? };
+        *owner = Owner {
+            place: read_half(book)?,
+            parts: book.word()?,
+        };
     }
     Ok(owners)
 }
 
 fn read_hours(book: &mut Reader<'_>) -> Result<[RealTimeHour; 24], BadBook> {
-    let mut hours = [RealTimeHour { dispatch_kwh: 0, metered_kwh: 0, lmp: 0 }; 24];
+    let mut hours = [RealTimeHour {
+        dispatch_kwh: 0,
+        metered_kwh: 0,
+        lmp: 0,
+    }; 24];
     for hour in hours.iter_mut() {
-        *hour = RealTimeHour { dispatch_kwh: book.word()?, metered_kwh: book.word()?, lmp: book.word()?.cast_signed() };
+        *hour = RealTimeHour {
+            dispatch_kwh: book.word()?,
+            metered_kwh: book.word()?,
+            lmp: book.word()?.cast_signed(),
+        };
     }
     Ok(hours)
 }

@@ -58,8 +58,8 @@ module _ (b : List ℕ) (h : Bytes b) where
   zeros-piece at n l e =
       let d = length-drop at b in
       ext-getD 0 (zeros n) (part at n b) (length-replicate n 0 ∙ sym (length-take-le n (drop at b) (omega (arith, d))))
-        (λ i k. let s : i < n = omega (arith, length-replicate {A = ℕ} n 0) in
-          getD-replicate n i 0 0 s ∙ sym (getD-take n (drop at b) i 0 s ∙ getD-drop at b i 0 ∙ zero-at i s))
+      (λ i k. let s : i < n = omega (arith, length-replicate {A = ℕ} n 0) in
+      getD-replicate n i 0 0 s ∙ sym (getD-take n (drop at b) i 0 s ∙ getD-drop at b i 0 ∙ zero-at i s))
     where
       zero-at : (i : ℕ) → i < n → getD b (at + i) 0 ≡ 0
       zero-at i s =
@@ -93,7 +93,7 @@ module _ (bs : List ℕ) (h : Bytes bs) where
   pub hour-again : 12 ≤ length bs → hour-bytes (hour-from bs) ≡ take 12 bs
   hour-again l =
       onto bs h 0 4 8 _ _ (number-piece bs h 0 4 (omega arith))
-        (onto bs h 4 4 4 _ _ (number-piece bs h 4 4 (omega arith)) (ap (digits 4) (ofZ-toZ w32 (value 8 4 bs) (value-lt 8 4 bs h)) ∙ number-piece bs h 8 4 (omega arith)))
+      (onto bs h 4 4 4 _ _ (number-piece bs h 4 4 (omega arith)) (ap (digits 4) (ofZ-toZ w32 (value 8 4 bs) (value-lt 8 4 bs h)) ∙ number-piece bs h 8 4 (omega arith)))
 
   pub flag-again : 1 ≤ length bs → value 0 1 bs ≤ 3 → flag-bytes (flag-from bs) ≡ take 1 bs
   flag-again l m = ap (digits 1) (flag-number-named (value 0 1 bs) m) ∙ number-piece bs h 0 1 l
@@ -167,12 +167,12 @@ module _ (b : List ℕ) (h : Bytes b) where
       → joined flag-bytes (each flag-from 1 24 (part at 24 b)) ≡ part at 24 b
   flags-again at most l m e =
       row-piece b h flag-from flag-bytes 1 24 24 at refl l
-        (λ i s. let q = at-most at most i e s in flag-again (drop (i * 1) (part at 24 b)) (in-row at 24 (i * 1)) (long at 24 1 24 i refl l s) (omega (arith, q)))
+      (λ i s. let q = at-most at most i e s in flag-again (drop (i * 1) (part at 24 b)) (in-row at 24 (i * 1)) (long at 24 1 24 i refl l s) (omega (arith, q)))
 
   pub events-again : (at : ℕ) → at + 24 ≤ length b → entry-fault (fields at 24 1 (Whole 0 5)) b ≡ None → joined event-bytes (each event-from 1 24 (part at 24 b)) ≡ part at 24 b
   events-again at l e =
       row-piece b h event-from event-bytes 1 24 24 at refl l
-        (λ i s. event-again (drop (i * 1) (part at 24 b)) (in-row at 24 (i * 1)) (long at 24 1 24 i refl l s) (at-most at 5 i e s))
+      (λ i s. event-again (drop (i * 1) (part at 24 b)) (in-row at 24 (i * 1)) (long at 24 1 24 i refl l s) (at-most at 5 i e s))
 
 -- THE RECORDS of a block in which a table finds no fault
 pub faultless : (t : List Entry) (b : List ℕ) → first-fault t b ≡ None → (i : ℕ) → i < length t → entry-fault (getD t i no-entry) b ≡ None
@@ -255,25 +255,43 @@ module _ (b : List ℕ) (h : Bytes b) where
   day-fits = (number-fits 4 8 0 4, number-fits 4 8 4 2, byte-fits 4 8 6, byte-fits 4 8 7)
 
   pub participant-fits : Fitting (Participant (participant-of b))
-  participant-fits =
-      ( number-fits 4 4 0 4, length-each load-from 12 8 (part 8 96 b)
-      , all-each Load-fits load-from 12 8 (part 8 96 b) (λ i s. (row-fits 8 96 (i * 12) 0 4, row-fits 8 96 (i * 12) 4 4, row-fits 8 96 (i * 12) 8 4))
-      , number-fits 104 8 0 4, number-fits 104 8 4 4 )
+  participant-fits = (
+    number-fits 4 4 0 4,
+    length-each load-from 12 8 (part 8 96 b),
+    all-each Load-fits load-from 12 8 (part 8 96 b) (λ i s. (row-fits 8 96 (i * 12) 0 4, row-fits 8 96 (i * 12) 4 4, row-fits 8 96 (i * 12) 8 4)),
+    number-fits 104 8 0 4,
+    number-fits 104 8 4 4,
+  )
 
   pub resource-fits : Fitting (Resource (resource-of b))
-  resource-fits =
-      ( h 1, h 2, h 3, number-fits 4 4 0 4, number-fits 8 8 0 4, number-fits 8 8 4 4
-      , length-each signed-from 4 24 (part 16 96 b), all-signed 16 96 4 24
-      , byte-fits 112 8 0, byte-fits 112 8 1, number-fits 112 8 4 4
-      , length-each owner-from 6 8 (part 120 48 b), all-each Owner-fits owner-from 6 8 (part 120 48 b) (λ i s. (row-fits 120 48 (i * 6) 0 2, row-fits 120 48 (i * 6) 2 4))
-      , length-each word-from 4 24 (part 168 96 b), all-each (λ n. n < 2 ^ 32) word-from 4 24 (part 168 96 b) (λ i s. row-fits 168 96 (i * 4) 0 4)
-      , length-each signed-from 4 24 (part 264 96 b), all-signed 264 96 4 24
-      , length-each flag-from 1 24 (part 360 24 b) )
+  resource-fits = (
+    h 1,
+    h 2,
+    h 3,
+    number-fits 4 4 0 4,
+    number-fits 8 8 0 4,
+    number-fits 8 8 4 4,
+    length-each signed-from 4 24 (part 16 96 b),
+    all-signed 16 96 4 24,
+    byte-fits 112 8 0,
+    byte-fits 112 8 1,
+    number-fits 112 8 4 4,
+    length-each owner-from 6 8 (part 120 48 b),
+    all-each Owner-fits owner-from 6 8 (part 120 48 b) (λ i s. (row-fits 120 48 (i * 6) 0 2, row-fits 120 48 (i * 6) 2 4)),
+    length-each word-from 4 24 (part 168 96 b),
+    all-each (λ n. n < 2 ^ 32) word-from 4 24 (part 168 96 b) (λ i s. row-fits 168 96 (i * 4) 0 4),
+    length-each signed-from 4 24 (part 264 96 b),
+    all-signed 264 96 4 24,
+    length-each flag-from 1 24 (part 360 24 b),
+  )
 
   pub real-time-fits : Fitting (RealTime (real-time-of b))
-  real-time-fits =
-      ( number-fits 4 4 0 4, number-fits 8 4 0 4
-      , length-each hour-from 12 24 (part 12 288 b)
-      , all-each Hour-fits hour-from 12 24 (part 12 288 b)
-          (λ i s. (row-fits 12 288 (i * 12) 0 4, row-fits 12 288 (i * 12) 4 4, read-sfits w32 (value 8 4 (drop (i * 12) (part 12 288 b)))))
-      , length-each event-from 1 24 (part 300 24 b), length-each flag-from 1 24 (part 324 24 b) )
+  real-time-fits = (
+    number-fits 4 4 0 4,
+    number-fits 8 4 0 4,
+    length-each hour-from 12 24 (part 12 288 b),
+    all-each Hour-fits hour-from 12 24 (part 12 288 b)
+        (λ i s. (row-fits 12 288 (i * 12) 0 4, row-fits 12 288 (i * 12) 4 4, read-sfits w32 (value 8 4 (drop (i * 12) (part 12 288 b))))),
+    length-each event-from 1 24 (part 300 24 b),
+    length-each flag-from 1 24 (part 324 24 b),
+  )

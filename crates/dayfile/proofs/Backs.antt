@@ -94,7 +94,7 @@ pub hour-back : (h : RealTimeHour) (rest : List ℕ) → Hour-fits h → hour-fr
 unfolding digits
 hour-back h rest f =
     same-hour h _ _ _ (number-digits 4 (h .«dispatch_kwh») (f .0)) (number-digits 4 (h .«metered_kwh») (f .1))
-      (ap (toZ w32) (number-digits 4 (ofZ w32 (h .lmp)) (bits-lt (h .lmp) (f .2))) ∙ toZ-ofZ w32 (h .lmp) (f .2))
+    (ap (toZ w32) (number-digits 4 (ofZ w32 (h .lmp)) (bits-lt (h .lmp) (f .2))) ∙ toZ-ofZ w32 (h .lmp) (f .2))
 
 -- THE ROWS: n parts in k bytes
 row-back : {A : Type 0} (Good : A → Type 0) (read : List ℕ → A) (write : A → List ℕ) (w n k : ℕ)
@@ -185,10 +185,10 @@ participant-back p rest f =
     let after = digits 4 (p .«network_load») ++ (digits 4 (p .«scr_weight») ++ rest) in
     let past = past-row load-bytes 12 8 96 load-long refl (p .loads) after 0 (f .1) in
     same-participant p _ _ _ _
-      (number-digits 4 (p .number) (f .0))
-      (loads-back (p .loads) after (f .1) (f .2))
-      (ap (λ t. value 0 4 (take 8 t)) past ∙ number-digits 4 (p .«network_load») (f .3))
-      (ap (λ t. value 4 4 (take 8 t)) past ∙ number-digits 4 (p .«scr_weight») (f .4))
+    (number-digits 4 (p .number) (f .0))
+    (loads-back (p .loads) after (f .1) (f .2))
+    (ap (λ t. value 0 4 (take 8 t)) past ∙ number-digits 4 (p .«network_load») (f .3))
+    (ap (λ t. value 4 4 (take 8 t)) past ∙ number-digits 4 (p .«scr_weight») (f .4))
 
 pub participant-rest : (p : ParticipantRecord) (rest : List ℕ) → Fitting (Participant p) → drop 112 (participant-with p rest) ≡ rest
 unfolding digits
@@ -228,19 +228,32 @@ module _ (r : RealTimeRecord) (rest : List ℕ) (f : Fitting (RealTime r)) where
   unfolding digits
   real-time-back =
       same-real-time r _ _ _ _ _
-        (number-digits 4 (r .number) (f .0))
-        (number-digits 4 (r .«economic_minimum_kwh») (f .1))
-        (hours-back (r .hours) after-hours (f .2) (f .3))
-        (ap (λ t. each event-from 1 24 (take 24 t)) real-time-events ∙ events-back (r .events) after-events (f .4))
-        (ap (λ t. each flag-from 1 24 (take 24 t)) real-time-flags ∙ flags-back (r .flags) rest (f .5))
+      (number-digits 4 (r .number) (f .0))
+      (number-digits 4 (r .«economic_minimum_kwh») (f .1))
+      (hours-back (r .hours) after-hours (f .2) (f .3))
+      (ap (λ t. each event-from 1 24 (take 24 t)) real-time-events ∙ events-back (r .events) after-events (f .4))
+      (ap (λ t. each flag-from 1 24 (take 24 t)) real-time-flags ∙ flags-back (r .flags) rest (f .5))
 
 same-resource : (g : ResourceRecord) (a b c d e f : ℕ) (ps : List ℤ) (h i j : ℕ) (os : List Owner) (cs : List ℕ) (ls : List ℤ) (fs : List Flag)
     → a ≡ g .region → b ≡ g .«minimum_run_hours» → c ≡ g .«minimum_down_hours» → d ≡ g .number → e ≡ g .«start_up_cents» → f ≡ g .«no_load_cents» → ps ≡ g .prices
     → h ≡ g .«hours_on_line» → i ≡ g .«owner_count» → j ≡ g .«self_scheduled» → os ≡ g .owners → cs ≡ g .«cleared_kwh» → ls ≡ g .lmps → fs ≡ g .flags
-    → record
-        { region = a; «minimum_run_hours» = b; «minimum_down_hours» = c; number = d; «start_up_cents» = e; «no_load_cents» = f; prices = ps
-        ; «hours_on_line» = h; «owner_count» = i; «self_scheduled» = j; owners = os; «cleared_kwh» = cs; lmps = ls; flags = fs }
-      ≡ g
+    → record {
+      region = a;
+      «minimum_run_hours» = b;
+      «minimum_down_hours» = c;
+      number = d;
+      «start_up_cents» = e;
+      «no_load_cents» = f;
+      prices = ps;
+      «hours_on_line» = h;
+      «owner_count» = i;
+      «self_scheduled» = j;
+      owners = os;
+      «cleared_kwh» = cs;
+      lmps = ls;
+      flags = fs;
+    }
+    ≡ g
 same-resource g a b c d e f ps h i j os cs ls fs q₁ q₂ q₃ q₄ q₅ q₆ q₇ q₈ q₉ r₁ r₂ r₃ r₄ r₅ = simp (q₁, q₂, q₃, q₄, q₅, q₆, q₇, q₈, q₉, r₁, r₂, r₃, r₄, r₅)
 
 module _ (g : ResourceRecord) (rest : List ℕ) (f : Fitting (Resource g)) where
@@ -283,17 +296,17 @@ module _ (g : ResourceRecord) (rest : List ℕ) (f : Fitting (Resource g)) where
   unfolding digits
   resource-back =
       same-resource g _ _ _ _ _ _ _ _ _ _ _ _ _ _
-        (byte-back (g .region) (f .0))
-        (byte-back (g .«minimum_run_hours») (f .1))
-        (byte-back (g .«minimum_down_hours») (f .2))
-        (number-digits 4 (g .number) (f .3))
-        (number-digits 4 (g .«start_up_cents») (f .4))
-        (number-digits 4 (g .«no_load_cents») (f .5))
-        (signeds-back (g .prices) after-prices (f .6) (f .7))
-        (ap (λ t. getD (take 8 t) 0 0) (past-prices 0) ∙ byte-back (g .«hours_on_line») (f .8))
-        (ap (λ t. getD (take 8 t) 1 0) (past-prices 0) ∙ byte-back (g .«owner_count») (f .9))
-        (ap (λ t. value 4 4 (take 8 t)) (past-prices 0) ∙ number-digits 4 (g .«self_scheduled») (f .10))
-        (ap (λ t. each owner-from 6 8 (take 48 t)) (past-prices 8) ∙ owners-back (g .owners) after-owners (f .11) (f .12))
-        (ap (λ t. each word-from 4 24 (take 96 t)) (past-prices 56 ∙ past-owners 0) ∙ words-back (g .«cleared_kwh») after-cleared (f .13) (f .14))
-        (ap (λ t. each signed-from 4 24 (take 96 t)) (past-prices 152 ∙ past-owners 96 ∙ past-cleared 0) ∙ signeds-back (g .lmps) after-lmps (f .15) (f .16))
-        (ap (λ t. each flag-from 1 24 (take 24 t)) (past-prices 248 ∙ past-owners 192 ∙ past-cleared 96 ∙ past-lmps 0) ∙ flags-back (g .flags) rest (f .17))
+      (byte-back (g .region) (f .0))
+      (byte-back (g .«minimum_run_hours») (f .1))
+      (byte-back (g .«minimum_down_hours») (f .2))
+      (number-digits 4 (g .number) (f .3))
+      (number-digits 4 (g .«start_up_cents») (f .4))
+      (number-digits 4 (g .«no_load_cents») (f .5))
+      (signeds-back (g .prices) after-prices (f .6) (f .7))
+      (ap (λ t. getD (take 8 t) 0 0) (past-prices 0) ∙ byte-back (g .«hours_on_line») (f .8))
+      (ap (λ t. getD (take 8 t) 1 0) (past-prices 0) ∙ byte-back (g .«owner_count») (f .9))
+      (ap (λ t. value 4 4 (take 8 t)) (past-prices 0) ∙ number-digits 4 (g .«self_scheduled») (f .10))
+      (ap (λ t. each owner-from 6 8 (take 48 t)) (past-prices 8) ∙ owners-back (g .owners) after-owners (f .11) (f .12))
+      (ap (λ t. each word-from 4 24 (take 96 t)) (past-prices 56 ∙ past-owners 0) ∙ words-back (g .«cleared_kwh») after-cleared (f .13) (f .14))
+      (ap (λ t. each signed-from 4 24 (take 96 t)) (past-prices 152 ∙ past-owners 96 ∙ past-cleared 0) ∙ signeds-back (g .lmps) after-lmps (f .15) (f .16))
+      (ap (λ t. each flag-from 1 24 (take 24 t)) (past-prices 248 ∙ past-owners 192 ∙ past-cleared 96 ∙ past-lmps 0) ∙ flags-back (g .flags) rest (f .17))

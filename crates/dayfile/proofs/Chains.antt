@@ -43,13 +43,14 @@ own-number (RealTime r) = r .number
 -- what stands behind a record
 abbrev pub step : Before → Record → Before
 step s r =
-    record
-      { kind = Some (kind-of r)
-      ; number = own-number r
-      ; participants = s .participants + cond (eqb (kind-of r) 80) 1 0
-      ; resources = s .resources + cond (eqb (kind-of r) 71) 1 0
-      ; participant = cond (eqb (kind-of r) 80) (Some (own-number r)) (s .participant)
-      ; resource = cond (eqb (kind-of r) 71) (Some (own-number r)) (s .resource) }
+    record {
+      kind = Some (kind-of r);
+      number = own-number r;
+      participants = s .participants + cond (eqb (kind-of r) 80) 1 0;
+      resources = s .resources + cond (eqb (kind-of r) 71) 1 0;
+      participant = cond (eqb (kind-of r) 80) (Some (own-number r)) (s .participant);
+      resource = cond (eqb (kind-of r) 71) (Some (own-number r)) (s .resource);
+    }
 
 abbrev pub Tied : Before → Record → Type 0
 Tied s (Day d) = Unit {0}
@@ -93,9 +94,9 @@ kinds b e = go (tells-eqb (getD b 0 0) 68) (tells-eqb (getD b 0 0) 80) (tells-eq
   where
     go : {x y z w : Bool} → Tells (getD b 0 0 ≡ 68) x → Tells (getD b 0 0 ≡ 80) y → Tells (getD b 0 0 ≡ 71) z → Tells (getD b 0 0 ≡ 82) w → (x || (y || (z || w))) ≡ true
         → ((getD b 0 0 ≡ 68) × (cond x (Day (day-of b)) (cond y (Participant (participant-of b)) (cond z (Resource (resource-of b)) (RealTime (real-time-of b)))) ≡ Day (day-of b)))
-          ⊎ (((getD b 0 0 ≡ 80) × (cond x (Day (day-of b)) (cond y (Participant (participant-of b)) (cond z (Resource (resource-of b)) (RealTime (real-time-of b)))) ≡ Participant (participant-of b)))
-          ⊎ (((getD b 0 0 ≡ 71) × (cond x (Day (day-of b)) (cond y (Participant (participant-of b)) (cond z (Resource (resource-of b)) (RealTime (real-time-of b)))) ≡ Resource (resource-of b)))
-          ⊎ ((getD b 0 0 ≡ 82) × (cond x (Day (day-of b)) (cond y (Participant (participant-of b)) (cond z (Resource (resource-of b)) (RealTime (real-time-of b)))) ≡ RealTime (real-time-of b)))))
+        ⊎ (((getD b 0 0 ≡ 80) × (cond x (Day (day-of b)) (cond y (Participant (participant-of b)) (cond z (Resource (resource-of b)) (RealTime (real-time-of b)))) ≡ Participant (participant-of b)))
+        ⊎ (((getD b 0 0 ≡ 71) × (cond x (Day (day-of b)) (cond y (Participant (participant-of b)) (cond z (Resource (resource-of b)) (RealTime (real-time-of b)))) ≡ Resource (resource-of b)))
+        ⊎ ((getD b 0 0 ≡ 82) × (cond x (Day (day-of b)) (cond y (Participant (participant-of b)) (cond z (Resource (resource-of b)) (RealTime (real-time-of b)))) ≡ RealTime (real-time-of b)))))
     go (holds p) y z w e = inl (p, refl)
     go (fails p) (holds q) z w e = inr (inl (q, refl))
     go (fails p) (fails q) (holds r) w e = inr (inr (inl (r, refl)))
@@ -104,13 +105,16 @@ kinds b e = go (tells-eqb (getD b 0 0) 68) (tells-eqb (getD b 0 0) 80) (tells-eq
 
 number-again : (b : List ℕ) → known (getD b 0 0) ≡ true → own-number (record-of b) ≡ value 4 4 b
 number-again b e =
-    elim (kinds b e)
-    [ inl h ↦ ap own-number (h .1) ∙ value-take 8 0 4 (drop 4 b) (omega arith) ∙ value-drop 4 0 4 b
-    | inr t ↦ elim t
-      [ inl h ↦ ap own-number (h .1) ∙ value-part b
-      | inr t ↦ elim t
-        [ inl h ↦ ap own-number (h .1) ∙ value-part b
-        | inr h ↦ ap own-number (h .1) ∙ value-part b ] ] ]
+    elim (kinds b e) [
+      | inl h ↦ ap own-number (h .1) ∙ value-take 8 0 4 (drop 4 b) (omega arith) ∙ value-drop 4 0 4 b
+      | inr t ↦ elim t [
+        | inl h ↦ ap own-number (h .1) ∙ value-part b
+        | inr t ↦ elim t [
+          | inl h ↦ ap own-number (h .1) ∙ value-part b
+          | inr h ↦ ap own-number (h .1) ∙ value-part b
+        ]
+      ]
+    ]
 
 encode-number : (r : Record) → Fitting r → value 4 4 (encode r) ≡ own-number r
 encode-number r w = sym (number-again (encode r) (encode-known r)) ∙ ap own-number (reads-back r w)
@@ -134,13 +138,14 @@ after-step s r w =
   where
     at : ℕ → ℕ → Before
     at c n =
-        record
-          { kind = Some c
-          ; number = n
-          ; participants = s .participants + cond (eqb c 80) 1 0
-          ; resources = s .resources + cond (eqb c 71) 1 0
-          ; participant = cond (eqb c 80) (Some n) (s .participant)
-          ; resource = cond (eqb c 71) (Some n) (s .resource) }
+        record {
+          kind = Some c;
+          number = n;
+          participants = s .participants + cond (eqb c 80) 1 0;
+          resources = s .resources + cond (eqb c 71) 1 0;
+          participant = cond (eqb c 80) (Some n) (s .participant);
+          resource = cond (eqb c 71) (Some n) (s .resource);
+        }
 
 abbrev four-if : Bool → Option ℕ
 four-if b = cond b (Some 4) None
@@ -177,16 +182,20 @@ rising-is s r w =
 
 owned-record : (limit : ℕ) (b : List ℕ) → known (getD b 0 0) ≡ true → owned limit b ≡ record-owned limit (record-of b)
 owned-record limit b e =
-    elim (kinds b e)
-    [ inl h ↦ other (h .0) ∙ sym (ap (record-owned limit) (h .1))
-    | inr t ↦ elim t
-      [ inl h ↦ other (h .0) ∙ sym (ap (record-owned limit) (h .1))
-      | inr t ↦ elim t
-        [ inl h ↦ ap (λ c. cond (eqb c 71) kept true) (h .0) ∙ sym (ap (record-owned limit) (h .1))
-        | inr h ↦ other (h .0) ∙ sym (ap (record-owned limit) (h .1)) ] ] ]
+    elim (kinds b e) [
+      | inl h ↦ other (h .0) ∙ sym (ap (record-owned limit) (h .1))
+      | inr t ↦ elim t [
+        | inl h ↦ other (h .0) ∙ sym (ap (record-owned limit) (h .1))
+        | inr t ↦ elim t [
+          | inl h ↦ ap (λ c. cond (eqb c 71) kept true) (h .0) ∙ sym (ap (record-owned limit) (h .1))
+          | inr h ↦ other (h .0) ∙ sym (ap (record-owned limit) (h .1))
+        ]
+      ]
+    ]
   where
     kept : Bool
     kept = owners-kept limit (resource-of b .«owner_count») (resource-of b .owners)
+
     other : {c : ℕ} → getD b 0 0 ≡ c → owned limit b ≡ cond (eqb c 71) kept true
     other q = ap (λ c. cond (eqb c 71) kept true) q
 
@@ -197,11 +206,11 @@ owned-is limit r w = owned-record limit (encode r) (encode-known r) ∙ ap (reco
 pub good-block : (s : Before) (r : Record) (k : ℕ) → Good s r → block-fault s k (encode r) ≡ None
 good-block s r k g =
     none-judged k _ _ _ _ _
-      (encode-checked r (g .fits))
-      (ap (in-order (s .kind)) (encode-kind r) ∙ g .follows)
-      (ap (λ o. earlier o (untied s (encode r))) (encode-fault r (g .fits) ∙ g .fields) ∙ untied-none s r (g .fits) (g .tied))
-      (rising-is s r (g .fits) ∙ g .risen)
-      (owned-is (s .participants) r (g .fits) ∙ g .shared)
+    (encode-checked r (g .fits))
+    (ap (in-order (s .kind)) (encode-kind r) ∙ g .follows)
+    (ap (λ o. earlier o (untied s (encode r))) (encode-fault r (g .fits) ∙ g .fields) ∙ untied-none s r (g .fits) (g .tied))
+    (rising-is s r (g .fits) ∙ g .risen)
+    (owned-is (s .participants) r (g .fits) ∙ g .shared)
 
 -- a block without a fault is a good record's
 pub order-known : (o : Option ℕ) (c : ℕ) → in-order o c ≡ true → known c ≡ true
@@ -227,16 +236,18 @@ block-good s k b l h e =
     let r = record-of b in
     let w = fitting-again b h in
     let a = written-again b l h kn (j .0) (fu .0) in
-    record
-      { good =
-          record
-            { fits = w
-            ; fields = sym (encode-fault r w) ∙ ap (λ x. first-fault (table-for (getD x 0 0)) x) a ∙ fu .0
-            ; follows = ap (in-order (s .kind)) (kind-again b kn) ∙ j .1
-            ; tied = none-untied s r w (ap (untied s) a ∙ fu .1)
-            ; risen = sym (rising-is s r w) ∙ ap (rising s) a ∙ j .3
-            ; shared = sym (owned-is (s .participants) r w) ∙ ap (owned (s .participants)) a ∙ j .4 }
-      ; again = a }
+    record {
+      good =
+          record {
+            fits = w;
+            fields = sym (encode-fault r w) ∙ ap (λ x. first-fault (table-for (getD x 0 0)) x) a ∙ fu .0;
+            follows = ap (in-order (s .kind)) (kind-again b kn) ∙ j .1;
+            tied = none-untied s r w (ap (untied s) a ∙ fu .1);
+            risen = sym (rising-is s r w) ∙ ap (rising s) a ∙ j .3;
+            shared = sym (owned-is (s .participants) r w) ∙ ap (owned (s .participants)) a ∙ j .4;
+          };
+      again = a;
+    }
 
 -- what stands behind a chain
 abbrev pub ends : Before → List Record → Before
@@ -253,9 +264,10 @@ none-right (Some x) u e = let z : _≡_ {A = ℕ} 0 1 = cc in absurd (omega arit
 
 pub bytes-take : (n : ℕ) (bs : List ℕ) → Bytes bs → Bytes (take n bs)
 bytes-take n bs h i =
-    elim (cases-lt i n)
-    [ inl l ↦ subst (λ x. x < 256) (sym (getD-take n bs i 0 l)) (h i)
-    | inr g ↦ subst (λ x. x < 256) (sym (getD-past (take n bs) i 0 (omega (arith, length-take n bs)))) (omega arith) ]
+    elim (cases-lt i n) [
+      | inl l ↦ subst (λ x. x < 256) (sym (getD-take n bs i 0 l)) (h i)
+      | inr g ↦ subst (λ x. x < 256) (sym (getD-past (take n bs) i 0 (omega (arith, length-take n bs)))) (omega arith)
+    ]
 
 -- the blocks of a file without a fault are a chain's
 pub record Chained (f : List ℕ) (k n : ℕ) : Type 0 where
@@ -273,18 +285,19 @@ chained f h (suc n) k l e =
     let g = block-good (standing f k) k b bl (bytes-take 512 (drop (512 * k) f) (bytes-drop (512 * k) f h)) (none-left (block-fault (standing f k) k b) (blocks-fault f (k + 1) n) e) in
     let ih = chained f h n (k + 1) (omega arith) (none-right (block-fault (standing f k) k b) (blocks-fault f (k + 1) n) e) in
     let st : standing f (k + 1) ≡ step (standing f k) (record-of (block f k)) =
-        standing-next f k ∙ ap (after (standing f k)) (sym (g .again)) ∙ after-step (standing f k) (record-of (block f k)) (g .good .fits) in
+    standing-next f k ∙ ap (after (standing f k)) (sym (g .again)) ∙ after-step (standing f k) (record-of (block f k)) (g .good .fits) in
     let s : k + 1 + n ≡ k + suc n = omega arith in
     let t : 512 * k + 512 ≡ 512 * (k + 1) = omega arith in
     let u : 512 + 512 * n ≡ 512 * suc n = omega arith in
-    record
-      { chain = (g .good, subst (λ x. Chain x (records-from f (k + 1) n)) st (ih .chain))
-      ; ending = ap (λ x. ends x (records-from f (k + 1) n)) (sym st) ∙ ih .ending ∙ ap (standing f) s
-      ; again =
+    record {
+      chain = (g .good, subst (λ x. Chain x (records-from f (k + 1) n)) st (ih .chain));
+      ending = ap (λ x. ends x (records-from f (k + 1) n)) (sym st) ∙ ih .ending ∙ ap (standing f) s;
+      again =
           ap (λ x. x ++ joined encode (records-from f (k + 1) n)) (g .again)
           ∙ ap (λ x. block f k ++ x) (ih .again ∙ ap (λ i. take (512 * n) (drop i f)) (sym t) ∙ ap (take (512 * n)) (sym (drop-drop 512 (512 * k) f)))
           ∙ sym (take-add 512 (512 * n) (drop (512 * k) f))
-          ∙ ap (λ i. take i (drop (512 * k) f)) u }
+          ∙ ap (λ i. take i (drop (512 * k) f)) u;
+    }
 
 -- a chain's blocks have no fault
 pub record Accepts (f : List ℕ) (k : ℕ) (rs : List Record) : Type 0 where
@@ -301,13 +314,14 @@ accepts (r ∷ rs) f rest k e c =
     let b : block f k ≡ encode r = ap (take 512) a ∙ take-at (encode r) (joined encode rs ++ rest) 512 n in
     let t : 512 * k + 512 ≡ 512 * (k + 1) = omega arith in
     let d : drop (512 * (k + 1)) f ≡ joined encode rs ++ rest =
-        ap (λ i. drop i f) (sym t) ∙ sym (drop-drop 512 (512 * k) f) ∙ ap (drop 512) a ∙ drop-at (encode r) (joined encode rs ++ rest) 512 n in
+    ap (λ i. drop i f) (sym t) ∙ sym (drop-drop 512 (512 * k) f) ∙ ap (drop 512) a ∙ drop-at (encode r) (joined encode rs ++ rest) 512 n in
     let st : standing f (k + 1) ≡ step (standing f k) r = standing-next f k ∙ ap (after (standing f k)) b ∙ after-step (standing f k) r (g .fits) in
     let ih = accepts rs f rest (k + 1) d (subst (λ x. Chain x rs) (sym st) (c .1)) in
     let s : k + suc (length rs) ≡ k + 1 + length rs = omega arith in
-    record
-      { none = ap (λ o. or-else o (blocks-fault f (k + 1) (length rs))) (ap (block-fault (standing f k) k) b ∙ good-block (standing f k) r k g) ∙ ih .none
-      ; ending = ap (standing f) s ∙ ih .ending ∙ ap (λ x. ends x rs) st }
+    record {
+      none = ap (λ o. or-else o (blocks-fault f (k + 1) (length rs))) (ap (block-fault (standing f k) k) b ∙ good-block (standing f k) r k g) ∙ ih .none;
+      ending = ap (standing f) s ∙ ih .ending ∙ ap (λ x. ends x rs) st;
+    }
 
 -- a block by itself without a fault is its record's
 module _ (b : List ℕ) (e : lone-fault b ≡ None) where

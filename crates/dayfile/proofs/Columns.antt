@@ -81,9 +81,9 @@ rest-row bs n a w h =
     let e : a + (n - a) ≡ n = omega arith in
     sym (take-append-drop w (drop a (take n bs)))
     ∙ ap (λ t. t ++ drop w (drop a (take n bs)))
-        ( ap (λ k. take w (drop a (take k bs))) (sym e)
-        ∙ ap (take w) (drop-take a (n - a) bs)
-        ∙ take-take w (n - a) (drop a bs) (omega arith) )
+    (ap (λ k. take w (drop a (take k bs))) (sym e)
+    ∙ ap (take w) (drop-take a (n - a) bs)
+    ∙ take-take w (n - a) (drop a bs) (omega arith))
     ∙ ap (λ t. take w (drop a bs) ++ t) (drop-drop w a (take n bs))
 
 pub sum-rest-le : (bs : List ℕ) (a : ℕ) → Bytes bs → sum (drop a (take 508 bs)) ≤ 508 * 255
@@ -116,10 +116,11 @@ pub columns-none : (once often bs zero-once zero-often : List ℕ) → length on
 columns-none once often bs zero-once zero-often wide zw zs zo s w o =
     let last = sym (drop-take 496 12 bs) in
     let upto = sumBy-take-le (λ x. x) zero-once (length (take 12 (drop 496 bs))) in
-    record
-      { wide = wide
-      ; whole = omega (arith, s, zs, ap sum last)
-      ; placed = omega (arith, w, o, upto, zw, zs, zo, ap (weighed 0) last) }
+    record {
+      wide = wide;
+      whole = omega (arith, s, zs, ap sum last);
+      placed = omega (arith, w, o, upto, zw, zs, zo, ap (weighed 0) last);
+    }
 
 -- at the row before: row i is right in front of the rest from row j on
 module _ (once often bs row : List ℕ) (i j : ℕ) (next : j ≡ i + 1) (low : j ≤ 31) (long : 508 ≤ length bs) (is : row ≡ take 16 (drop (16 * i) bs)) (c : Columns once often bs j) where
@@ -145,20 +146,24 @@ module _ (once often bs row : List ℕ) (i j : ℕ) (next : j ≡ i + 1) (low : 
 
   -- the row can be added
   pub columns-room : Bytes bs → (length row ≤ 16) × ((sum once + sum row < 2 ^ 32) × (sum often + sum once < 2 ^ 32))
-  columns-room h =
-      ( omega (arith, row-long)
-      , ( omega (arith, row-sum, sum-rest-le bs (16 * i) h)
-        , omega (arith, c .whole, c .placed, sum-rest-le bs (16 * j) h, weighed-rest-le bs (16 * j) h) ) )
+  columns-room h = (
+    omega (arith, row-long),
+    (
+      omega (arith, row-sum, sum-rest-le bs (16 * i) h),
+      omega (arith, c .whole, c .placed, sum-rest-le bs (16 * j) h, weighed-rest-le bs (16 * j) h),
+    ),
+  )
 
   -- the row is added
   pub columns-more : (once′ often′ : List ℕ) → length once′ ≡ 16 → sum once′ ≡ sum once + sum row → weighed 0 once′ ≡ weighed 0 once + weighed 0 row
       → sum often′ ≡ sum often + sum (take (length row) once) → Columns once′ often′ bs i
   columns-more once′ often′ wide s w o =
       let all : sum (take (length row) once) ≡ sum once = ap sum (take-all (length row) once (omega (arith, row-long, c .wide))) in
-      record
-        { wide = wide
-        ; whole = omega (arith, s, row-sum)
-        ; placed = omega (arith, w, o, all, row-weighed) }
+      record {
+        wide = wide;
+        whole = omega (arith, s, row-sum);
+        placed = omega (arith, w, o, all, row-weighed);
+      }
 
 -- no row is left
 pub columns-all : (once often bs : List ℕ) (j : ℕ) → j ≡ 0 → Columns once often bs j → weighed 0 once + 16 * sum often ≡ weighed 0 (take 508 bs)

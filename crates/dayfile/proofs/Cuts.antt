@@ -15,12 +15,14 @@ part-of-rest xs h i n = simp (take-rest, drop-drop)
 -- a place past the end is the end
 pub take-min : {A : Type 0} (n : ℕ) (xs : List A) → take (min n (length xs)) xs ≡ take n xs
 take-min n xs =
-    elim (cases-lt n (length xs))
-    [ inl l ↦ ap (λ k. take k xs) (omega arith)
-    | inr g ↦ take-all (min n (length xs)) xs (omega arith) ∙ sym (take-all n xs g) ]
+    elim (cases-lt n (length xs)) [
+      | inl l ↦ ap (λ k. take k xs) (omega arith)
+      | inr g ↦ take-all (min n (length xs)) xs (omega arith) ∙ sym (take-all n xs g)
+    ]
 
 pub drop-min : {A : Type 0} (n : ℕ) (xs : List A) → drop (min n (length xs)) xs ≡ drop n xs
 drop-min n xs =
-    elim (cases-lt n (length xs))
-    [ inl l ↦ ap (λ k. drop k xs) (omega arith)
-    | inr g ↦ drop-all (min n (length xs)) xs (omega arith) ∙ sym (drop-all n xs g) ]
+    elim (cases-lt n (length xs)) [
+      | inl l ↦ ap (λ k. drop k xs) (omega arith)
+      | inr g ↦ drop-all (min n (length xs)) xs (omega arith) ∙ sym (drop-all n xs g)
+    ]

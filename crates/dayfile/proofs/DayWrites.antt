@@ -37,12 +37,13 @@ all-like P Q (x ∷ xs) h a = (h x (a .0), all-like P Q xs h (a .1))
 -- owners below a limit are below a higher one
 raised : (low high count : ℕ) (os : List Owner) → low ≤ high → Owned low count os → Owned high count os
 raised low high count os l o =
-    record
-      { rising = o .rising
-      ; below = all-like (λ w. w .place < low) (λ w. w .place < high) (take count os) (λ w h. omega arith) (o .below)
-      ; above = o .above
-      ; whole = o .whole
-      ; unused = o .unused }
+    record {
+      rising = o .rising;
+      below = all-like (λ w. w .place < low) (λ w. w .place < high) (take count os) (λ w h. omega arith) (o .below);
+      above = o .above;
+      whole = o .whole;
+      unused = o .unused;
+    }
 
 owned-higher : (low high : ℕ) (r : Record) → low ≤ high → record-owned low r ≡ true → record-owned high r ≡ true
 owned-higher low high (Day d) l e = refl
@@ -64,12 +65,12 @@ module _ (f : List ℕ) (h : Bytes f) (p : Passed f) (k : ℕ) (l : k < blocks f
   good : Block-good (standing f k) (block f k)
   good =
       block-good (standing f k) k (block f k) (length-take-le 512 (drop (512 * k) f) (omega (arith, length-drop (512 * k) f)))
-        (bytes-take 512 (drop (512 * k) f) (bytes-drop (512 * k) f h)) (block-none f k p l)
+      (bytes-take 512 (drop (512 * k) f) (bytes-drop (512 * k) f h)) (block-none f k p l)
 
   pub block-unrefused : (room : ℕ) → 512 ≤ room → unwritten (record-of (block f k)) room ≡ None
   block-unrefused room m =
       unwritten-none (record-of (block f k)) room (good .good .fields)
-        (owned-higher (tally 80 f k) 48 (record-of (block f k)) (few-participants f k p (omega arith)) (good .good .shared)) m
+      (owned-higher (tally 80 f k) 48 (record-of (block f k)) (few-participants f k p (omega arith)) (good .good .shared)) m
 
   pub block-again : encode (record-of (block f k)) ≡ block f k
   block-again = good .again
@@ -98,13 +99,13 @@ front-more f out was after k l m e a =
 pub day-refused : (f was : List ℕ) → length was < length f → Writes-day f was (Err Room) was
 day-refused f was l =
     subst (λ o. Done o was (joined encode (records f) ++ drop (length f) was) (Err Room) was)
-      (sym (cond-true (ltb (length was) (length f)) (Some Room) None (lt-ltb (length was) (length f) l))) (refl, refl)
+    (sym (cond-true (ltb (length was) (length f)) (Some Room) None (lt-ltb (length was) (length f) l))) (refl, refl)
 
 pub day-written : (f was out : List ℕ) → Bytes f → Passed f → length f ≤ length was → out ≡ take (length f) f ++ drop (length f) was → Writes-day f was (Ok tt) out
 day-written f was out h p l e =
     subst (λ o. Done o was (joined encode (records f) ++ drop (length f) was) (Ok tt) out)
-      (sym (cond-false (ltb (length was) (length f)) (Some Room) None (le-ltb (length was) (length f) l)))
-      (refl, e ∙ ap (λ x. x ++ drop (length f) was) (take-all (length f) f (omega arith) ∙ sym (records-again f h p)))
+    (sym (cond-false (ltb (length was) (length f)) (Some Room) None (le-ltb (length was) (length f) l)))
+    (refl, e ∙ ap (λ x. x ++ drop (length f) was) (take-all (length f) f (omega arith) ∙ sym (records-again f h p)))
 
 -- a turn: the record's block goes behind those before it, and is not refused
 some-same : {A : Type 0} {x y : A} → Some x ≡ Some y → x ≡ y
@@ -127,9 +128,10 @@ turned f was out made k r answer h p l m e q w =
     let d = done-none (unwritten r (length rest)) rest (encode r ++ drop 512 rest) answer made n w in
     let b : encode r ≡ block f k = ap encode rec ∙ block-again f h p k l in
     let t : drop (length out - 512 * k) (drop (512 * k) out) ≡ [] = drop-all (length out - 512 * k) (drop (512 * k) out) (omega (arith, ld)) in
-    record
-      { fine = d .0
-      ; front =
+    record {
+      fine = d .0;
+      front =
           front-more f out was (take (512 * k) out ++ (made ++ drop (length out - 512 * k) (drop (512 * k) out))) k (omega (arith, p .whole)) m e
-            ( ap (λ x. take (512 * k) out ++ (made ++ x)) t
-            ∙ ap (λ x. take (512 * k) out ++ (x ++ [])) (d .1 ∙ ap (λ x. x ++ drop 512 rest) b ∙ ap (λ x. block f k ++ drop 512 x) same) ) }
+          (ap (λ x. take (512 * k) out ++ (made ++ x)) t
+          ∙ ap (λ x. take (512 * k) out ++ (x ++ [])) (d .1 ∙ ap (λ x. x ++ drop 512 rest) b ∙ ap (λ x. block f k ++ drop 512 x) same));
+    }

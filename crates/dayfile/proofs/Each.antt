@@ -64,7 +64,7 @@ joined-each read write w (suc n) bs l h =
     let e : w + n * w ≡ suc n * w = omega (arith, s) in
     let first : write (read bs) ≡ take w bs = subst (λ t. write (read t) ≡ take w t) (unshifted w bs) (h 0 (omega arith)) in
     let rest = joined-each read write w n (drop w bs) (omega (arith, s, length-drop w bs))
-               (λ i k. subst (λ t. write (read t) ≡ take w t) (sym (shifted w i bs)) (h (suc i) (omega arith))) in
+    (λ i k. subst (λ t. write (read t) ≡ take w t) (sym (shifted w i bs)) (h (suc i) (omega arith))) in
     ap (λ t. t ++ joined write (each read w n (drop w bs))) first
     ∙ ap (λ t. take w bs ++ t) rest
     ∙ sym (take-add w (n * w) bs)
@@ -74,9 +74,10 @@ joined-each read write w (suc n) bs l h =
 pub all-each : {A : Type 0} (P : A → Type 0) (read : List ℕ → A) (w n : ℕ) (bs : List ℕ) → ((i : ℕ) → i < n → P (read (drop (i * w) bs))) → All P (each read w n bs)
 unfolding each
 all-each P read w zero bs h = tt
-all-each P read w (suc n) bs h =
-    ( subst (λ t. P (read t)) (unshifted w bs) (h 0 (omega arith))
-    , all-each P read w n (drop w bs) (λ i k. subst (λ t. P (read t)) (sym (shifted w i bs)) (h (suc i) (omega arith))) )
+all-each P read w (suc n) bs h = (
+  subst (λ t. P (read t)) (unshifted w bs) (h 0 (omega arith)),
+  all-each P read w n (drop w bs) (λ i k. subst (λ t. P (read t)) (sym (shifted w i bs)) (h (suc i) (omega arith))),
+)
 
 -- each of n parts stands within their bytes
 pub part-within : (j n w : ℕ) → j < n → j * w + w ≤ n * w

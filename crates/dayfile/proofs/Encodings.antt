@@ -55,18 +55,18 @@ length-body (Participant p) f =
     ap suc (zeros-more 3 _ 504 (number-more 4 _ _ 500 (parts-more load-bytes 12 8 (p .loads) _ 404 load-long (f .1) (number-more 4 _ _ 400 (number-more 4 _ _ 396 (length-zeros 396))))))
 length-body (Resource g) f =
     ap suc
-      (number-more 1 _ _ 506 (number-more 1 _ _ 505 (number-more 1 _ _ 504 (number-more 4 _ _ 500 (number-more 4 _ _ 496 (number-more 4 _ _ 492
-      (parts-more signed-bytes 4 24 (g .prices) _ 396 signed-long (f .6)
-      (number-more 1 _ _ 395 (number-more 1 _ _ 394 (zeros-more 2 _ 392 (number-more 4 _ _ 388
-      (parts-more owner-bytes 6 8 (g .owners) _ 340 owner-long (f .11)
-      (parts-more word-bytes 4 24 (g .«cleared_kwh») _ 244 word-long (f .13)
-      (parts-more signed-bytes 4 24 (g .lmps) _ 148 signed-long (f .15)
-      (parts-more flag-bytes 1 24 (g .flags) _ 124 flag-long (f .17) (length-zeros 124))))))))))))))))
+    (number-more 1 _ _ 506 (number-more 1 _ _ 505 (number-more 1 _ _ 504 (number-more 4 _ _ 500 (number-more 4 _ _ 496 (number-more 4 _ _ 492
+    (parts-more signed-bytes 4 24 (g .prices) _ 396 signed-long (f .6)
+    (number-more 1 _ _ 395 (number-more 1 _ _ 394 (zeros-more 2 _ 392 (number-more 4 _ _ 388
+    (parts-more owner-bytes 6 8 (g .owners) _ 340 owner-long (f .11)
+    (parts-more word-bytes 4 24 (g .«cleared_kwh») _ 244 word-long (f .13)
+    (parts-more signed-bytes 4 24 (g .lmps) _ 148 signed-long (f .15)
+    (parts-more flag-bytes 1 24 (g .flags) _ 124 flag-long (f .17) (length-zeros 124))))))))))))))))
 length-body (RealTime r) f =
     ap suc (zeros-more 3 _ 504 (number-more 4 _ _ 500 (number-more 4 _ _ 496
-      (parts-more hour-bytes 12 24 (r .hours) _ 208 hour-long (f .2)
-      (parts-more event-bytes 1 24 (r .events) _ 184 event-long (f .4)
-      (parts-more flag-bytes 1 24 (r .flags) _ 160 flag-long (f .5) (length-zeros 160)))))))
+    (parts-more hour-bytes 12 24 (r .hours) _ 208 hour-long (f .2)
+    (parts-more event-bytes 1 24 (r .events) _ 184 event-long (f .4)
+    (parts-more flag-bytes 1 24 (r .flags) _ 160 flag-long (f .5) (length-zeros 160)))))))
 
 pub length-encode : (r : Record) → Fitting r → length (encode r) ≡ 512
 unfolding encode
@@ -152,21 +152,23 @@ small-body : (r : Record) → Small (body r)
 small-body (Day d) = (omega arith, zeros-with 3 _ (number-with 4 _ _ (number-with 2 _ _ (number-with 1 _ _ (number-with 1 _ _ (small-zeros 496))))))
 small-body (Participant p) =
     (omega arith, zeros-with 3 _ (number-with 4 _ _ (parts-with load-bytes small-load (p .loads) _ (number-with 4 _ _ (number-with 4 _ _ (small-zeros 396))))))
-small-body (Resource g) =
-    ( omega arith
-    , number-with 1 _ _ (number-with 1 _ _ (number-with 1 _ _ (number-with 4 _ _ (number-with 4 _ _ (number-with 4 _ _
+small-body (Resource g) = (
+  omega arith,
+  number-with 1 _ _ (number-with 1 _ _ (number-with 1 _ _ (number-with 4 _ _ (number-with 4 _ _ (number-with 4 _ _
       (parts-with signed-bytes (λ z. small-digits 4 _) (g .prices) _
       (number-with 1 _ _ (number-with 1 _ _ (zeros-with 2 _ (number-with 4 _ _
       (parts-with owner-bytes small-owner (g .owners) _
       (parts-with word-bytes (λ n. small-digits 4 n) (g .«cleared_kwh») _
       (parts-with signed-bytes (λ z. small-digits 4 _) (g .lmps) _
-      (parts-with flag-bytes (λ f. small-digits 1 _) (g .flags) _ (small-zeros 124)))))))))))))) ) )
-small-body (RealTime r) =
-    ( omega arith
-    , zeros-with 3 _ (number-with 4 _ _ (number-with 4 _ _
+      (parts-with flag-bytes (λ f. small-digits 1 _) (g .flags) _ (small-zeros 124))))))))))))))),
+)
+small-body (RealTime r) = (
+  omega arith,
+  zeros-with 3 _ (number-with 4 _ _ (number-with 4 _ _
       (parts-with hour-bytes small-hour (r .hours) _
       (parts-with event-bytes (λ e. small-digits 1 _) (r .events) _
-      (parts-with flag-bytes (λ f. small-digits 1 _) (r .flags) _ (small-zeros 160)))))) )
+      (parts-with flag-bytes (λ f. small-digits 1 _) (r .flags) _ (small-zeros 160)))))),
+)
 
 pub body-bytes : (r : Record) → Bytes (body r)
 body-bytes r = bytes-from-all (body r) (small-body r)

@@ -61,13 +61,14 @@ passed f e =
     let w = and-parts (not (eqb (length f) 0)) (eqb (length f % 512) 0 && leb (length f) 65536) (p .0) in
     let v = and-parts (eqb (length f % 512) 0) (leb (length f) 65536) (w .1) in
     let c = and-parts (eqb (tally 80 f (blocks f)) (getD f 10 0)) (eqb (tally 71 f (blocks f)) (getD f 11 0)) (p .2) in
-    record
-      { some = eqb-false (length f) 0 (not-true (eqb (length f) 0) (w .0))
-      ; whole = eqb-true (length f % 512) 0 (v .0)
-      ; short = leb-true (length f) 65536 (v .1)
-      ; none = p .1
-      ; participants = eqb-true (tally 80 f (blocks f)) (getD f 10 0) (c .0)
-      ; resources = eqb-true (tally 71 f (blocks f)) (getD f 11 0) (c .1) }
+    record {
+      some = eqb-false (length f) 0 (not-true (eqb (length f) 0) (w .0));
+      whole = eqb-true (length f % 512) 0 (v .0);
+      short = leb-true (length f) 65536 (v .1);
+      none = p .1;
+      participants = eqb-true (tally 80 f (blocks f)) (getD f 10 0) (c .0);
+      resources = eqb-true (tally 71 f (blocks f)) (getD f 11 0) (c .1);
+    }
 
 pub unrefused : (f : List ℕ) → Passed f → verdict f ≡ None
 unrefused f p =
@@ -131,7 +132,7 @@ block-known f k p l = order-known (kind-before f k) (kind f k) (block-ordered f 
 
 -- the first block of an accepted file is the day's
 pub some-block : (f : List ℕ) → Passed f → 0 < blocks f
-some-block f p = go (cases-lt 0 (length f)) 
+some-block f p = go (cases-lt 0 (length f))
   where
     go : (0 < length f) ⊎ (length f ≤ 0) → 0 < blocks f
     go (inl l) = omega (arith, p .whole)
@@ -162,7 +163,7 @@ block-fields f k p l =
     let s = standing f k in
     let b = block f k in
     earlier-none-parts (first-fault (table-for (kind f k)) b) (untied s b)
-      (judged-none k (checked b) (in-order (s .kind) (kind f k)) (earlier (first-fault (table-for (kind f k)) b) (untied s b)) (rising s b) (owned (s .participants) b) (block-none f k p l) .2) .0
+    (judged-none k (checked b) (in-order (s .kind) (kind f k)) (earlier (first-fault (table-for (kind f k)) b) (untied s b)) (rising s b) (owned (s .participants) b) (block-none f k p l) .2) .0
 
 counted-few : (f : List ℕ) → Passed f → getD f 10 0 ≤ 48
 counted-few f p =
@@ -188,9 +189,10 @@ counts-of d rest w =
     let b = encode (Day d) in
     let e : record-of b ≡ Day (day-of b) = cond-true (eqb (getD b 0 0) 68) (Day (day-of b)) _ (eq-eqb (getD b 0 0) 68 (encode-kind (Day d))) in
     let s : day-of b ≡ d = day-same (sym e ∙ reads-back (Day d) w) in
-    let n = length-encode (Day d) w in
-    ( getD-append-left b rest 0 10 (omega (arith, n)) ∙ sym (head-byte b 6 (omega arith)) ∙ ap (λ (x : DayRecord). x .participants) s
-    , getD-append-left b rest 0 11 (omega (arith, n)) ∙ sym (head-byte b 7 (omega arith)) ∙ ap (λ (x : DayRecord). x .resources) s )
+    let n = length-encode (Day d) w in (
+      getD-append-left b rest 0 10 (omega (arith, n)) ∙ sym (head-byte b 6 (omega arith)) ∙ ap (λ (x : DayRecord). x .participants) s,
+      getD-append-left b rest 0 11 (omega (arith, n)) ∙ sym (head-byte b 7 (omega arith)) ∙ ap (λ (x : DayRecord). x .resources) s,
+    )
 
 pub joined-length : (rs : List Record) (s : Before) → Chain s rs → length (joined encode rs) ≡ 512 * length rs
 joined-length [] s c = refl
@@ -215,17 +217,18 @@ shaped-accepted d ps us h dp dr lp lu f e =
     let ch = subst (λ s. Chain s rs) (sym (standing-first f)) c in
     let a = accepts rs f [] 0 (sym e ∙ sym (append-nil (joined encode rs))) ch in
     let st : standing f (blocks f) ≡ ends nothing (day-records d ps us) =
-        ap (standing f) (bs ∙ sym (zero-add (length rs))) ∙ a .ending ∙ ap (λ s. ends s rs) (standing-first f) in
+    ap (standing f) (bs ∙ sym (zero-add (length rs))) ∙ a .ending ∙ ap (λ s. ends s rs) (standing-first f) in
     let de = day-ends d ps us in
     let co = counts-of d (joined encode (map Participant ps ++ joined generator-records us)) (h .day .0) in
     unrefused f
-      (record
-        { some = λ z. absurd (omega (arith, z, lf, m))
-        ; whole = omega (arith, lf)
-        ; short = omega (arith, lf, m, few)
-        ; none = ap (blocks-fault f 0) bs ∙ a .none
-        ; participants = ap (λ (s : Before). s .participants) st ∙ de .0 ∙ sym dp ∙ sym (co .0) ∙ ap (λ x. getD x 10 0) e
-        ; resources = ap (λ (s : Before). s .resources) st ∙ de .1 ∙ sym dr ∙ sym (co .1) ∙ ap (λ x. getD x 11 0) e })
+    (record {
+      some = λ z. absurd (omega (arith, z, lf, m));
+      whole = omega (arith, lf);
+      short = omega (arith, lf, m, few);
+      none = ap (blocks-fault f 0) bs ∙ a .none;
+      participants = ap (λ (s : Before). s .participants) st ∙ de .0 ∙ sym dp ∙ sym (co .0) ∙ ap (λ x. getD x 10 0) e;
+      resources = ap (λ (s : Before). s .resources) st ∙ de .1 ∙ sym dr ∙ sym (co .1) ∙ ap (λ x. getD x 11 0) e;
+    })
 
 -- and the other way: an accepted file's records are a day's
 pub record Shape-of (f : List ℕ) : Type 0 where
@@ -250,15 +253,16 @@ accepted-shaped f h p =
     let s = chain-shape (records f) (omega (arith, records-length f 0 (blocks f), some-block f p)) c in
     let again = ap (joined encode) (sym (s .same)) ∙ records-again f h p in
     let en : ends nothing (day-records (s .d) (s .ps) (s .us)) ≡ standing f (blocks f) =
-        ap (ends nothing) (sym (s .same)) ∙ ap (λ x. ends x (records f)) (sym (standing-first f)) ∙ k .ending ∙ ap (standing f) (zero-add (blocks f)) in
+    ap (ends nothing) (sym (s .same)) ∙ ap (λ x. ends x (records f)) (sym (standing-first f)) ∙ k .ending ∙ ap (standing f) (zero-add (blocks f)) in
     let de = day-ends (s .d) (s .ps) (s .us) in
     let co = counts-of (s .d) (joined encode (map Participant (s .ps) ++ joined generator-records (s .us))) (s .shaped .day .0) in
-    record
-      { d = s .d
-      ; ps = s .ps
-      ; us = s .us
-      ; same = s .same
-      ; shaped = s .shaped
-      ; participants = sym (co .0) ∙ ap (λ x. getD x 10 0) again ∙ sym (p .participants) ∙ sym (ap (λ (x : Before). x .participants) en) ∙ de .0
-      ; resources = sym (co .1) ∙ ap (λ x. getD x 11 0) again ∙ sym (p .resources) ∙ sym (ap (λ (x : Before). x .resources) en) ∙ de .1
-      ; again = again }
+    record {
+      d = s .d;
+      ps = s .ps;
+      us = s .us;
+      same = s .same;
+      shaped = s .shaped;
+      participants = sym (co .0) ∙ ap (λ x. getD x 10 0) again ∙ sym (p .participants) ∙ sym (ap (λ (x : Before). x .participants) en) ∙ de .0;
+      resources = sym (co .1) ∙ ap (λ x. getD x 11 0) again ∙ sym (p .resources) ∙ sym (ap (λ (x : Before). x .resources) en) ∙ de .1;
+      again = again;
+    }

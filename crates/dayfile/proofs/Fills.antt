@@ -30,9 +30,10 @@ opened n letter xs ys e f = record { is = f ∙ ap (λ t. set t 0 letter) e; far
 pub filled : {xs front : List ℕ} {i : ℕ} (k n : ℕ) (ys zs : List ℕ) → Filled xs front i (k + n) → length ys ≡ k → zs ≡ laid xs i ys → Filled zs (front ++ ys) (i + k) n
 filled {xs} {front} {i} k n ys zs f l e =
     let m : k + n - length ys ≡ n = omega (arith, l) in
-    record
-      { is = e ∙ ap (λ t. laid t i ys) (f .is) ∙ ap (λ p. laid (front ++ zeros (k + n)) p ys) (sym (f .far)) ∙ laid-after front (k + n) ys (omega (arith, l)) ∙ ap (λ p. (front ++ ys) ++ zeros p) m
-      ; far = length-append front ys ∙ omega (arith, l, f .far) }
+    record {
+      is = e ∙ ap (λ t. laid t i ys) (f .is) ∙ ap (λ p. laid (front ++ zeros (k + n)) p ys) (sym (f .far)) ∙ laid-after front (k + n) ys (omega (arith, l)) ∙ ap (λ p. (front ++ ys) ++ zeros p) m;
+      far = length-append front ys ∙ omega (arith, l, f .far);
+    }
 
 -- a number that was passed on before it was written
 pub passed : (xs : List ℕ) (i w : ℕ) {ys : List ℕ} {n m : ℕ} → ys ≡ laid xs i (digits w n) → n ≡ m → ys ≡ laid xs i (digits w m)
@@ -41,9 +42,10 @@ passed xs i w e f = e ∙ ap (λ k. laid xs i (digits w k)) f
 -- k bytes that stay 0
 pub skipped : {xs front : List ℕ} {i : ℕ} (k n : ℕ) → Filled xs front i (k + n) → Filled xs (front ++ zeros k) (i + k) n
 skipped {xs} {front} {i} k n f =
-    record
-      { is = f .is ∙ ap (λ t. front ++ t) (sym (replicate-append-replicate k n 0)) ∙ sym (append-assoc front (zeros k) (zeros n))
-      ; far = length-append front (zeros k) ∙ omega (arith, length-replicate {A = ℕ} k 0, f .far) }
+    record {
+      is = f .is ∙ ap (λ t. front ++ t) (sym (replicate-append-replicate k n 0)) ∙ sym (append-assoc front (zeros k) (zeros n));
+      far = length-append front (zeros k) ∙ omega (arith, length-replicate {A = ℕ} k 0, f .far);
+    }
 
 grouped-seven : (a b c d e f g : List ℕ) → (((((a ++ b) ++ c) ++ d) ++ e) ++ f) ++ g ≡ a ++ (b ++ (c ++ (d ++ (e ++ (f ++ g)))))
 grouped-seven a b c d e f g = simp append-assoc
@@ -97,7 +99,7 @@ real-time-filled r xs xs₀ xs₁ xs₂ xs₃ xs₄ xs₅ h e f z e₀ e₁ e₂
 
 grouped-all : (a b c d e f g h i j k l m n o p q : List ℕ)
     → (((((((((((((((a ++ b) ++ c) ++ d) ++ e) ++ f) ++ g) ++ h) ++ i) ++ j) ++ k) ++ l) ++ m) ++ n) ++ o) ++ p) ++ q
-      ≡ a ++ (b ++ (c ++ (d ++ (e ++ (f ++ (g ++ (h ++ (i ++ (j ++ (k ++ (l ++ (m ++ (n ++ (o ++ (p ++ q)))))))))))))))
+    ≡ a ++ (b ++ (c ++ (d ++ (e ++ (f ++ (g ++ (h ++ (i ++ (j ++ (k ++ (l ++ (m ++ (n ++ (o ++ (p ++ q)))))))))))))))
 grouped-all a b c d e f g h i j k l m n o p q = simp append-assoc
 
 pub resource-filled : (g : ResourceRecord) (xs xs₀ xs₁ xs₂ xs₃ xs₄ xs₅ xs₆ xs₇ xs₈ xs₉ xs₁₀ xs₁₁ xs₁₂ xs₁₃ xs₁₄ : List ℕ)
@@ -131,4 +133,4 @@ resource-filled g xs xs₀ xs₁ xs₂ xs₃ xs₄ xs₅ xs₆ xs₇ xs₈ xs₉
     let f = skipped 124 4 f₁₄ in
     f .is
     ∙ ap (λ t. t ++ zeros 4)
-        (grouped-all (71 ∷ []) (digits 1 (g .region)) (digits 1 (g .«minimum_run_hours»)) (digits 1 (g .«minimum_down_hours»)) (digits 4 (g .number)) (digits 4 (g .«start_up_cents»)) (digits 4 (g .«no_load_cents»)) (joined signed-bytes (g .prices)) (digits 1 (g .«hours_on_line»)) (digits 1 (g .«owner_count»)) (zeros 2) (digits 4 (g .«self_scheduled»)) (joined owner-bytes (g .owners)) (joined word-bytes (g .«cleared_kwh»)) (joined signed-bytes (g .lmps)) (joined flag-bytes (g .flags)) (zeros 124))
+    (grouped-all (71 ∷ []) (digits 1 (g .region)) (digits 1 (g .«minimum_run_hours»)) (digits 1 (g .«minimum_down_hours»)) (digits 4 (g .number)) (digits 4 (g .«start_up_cents»)) (digits 4 (g .«no_load_cents»)) (joined signed-bytes (g .prices)) (digits 1 (g .«hours_on_line»)) (digits 1 (g .«owner_count»)) (zeros 2) (digits 4 (g .«self_scheduled»)) (joined owner-bytes (g .owners)) (joined word-bytes (g .«cleared_kwh»)) (joined signed-bytes (g .lmps)) (joined flag-bytes (g .flags)) (zeros 124))

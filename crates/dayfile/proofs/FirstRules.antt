@@ -103,14 +103,18 @@ same-rule owners owners t e = refl
 
 pub line-rule : (q r : Rule) → Sooner q r ⊎ ((q ≡ r) ⊎ Sooner r q)
 line-rule q r =
-    elim (cases-lt (turn q) (turn r))
-    [ inl l ↦ inl (inl l)
-    | inr l ↦ elim (cases-lt (turn r) (turn q))
-      [ inl m ↦ inr (inr (inl m))
-      | inr m ↦ (
-        let e : turn q ≡ turn r = omega arith in
-        elim (cases-lt (byte q) (byte r))
-        [ inl b ↦ inl (inr (e, b))
-        | inr b ↦ elim (cases-lt (byte r) (byte q))
-          [ inl d ↦ inr (inr (inr (sym e, d)))
-          | inr d ↦ inr (inl (same-rule q r e (omega arith))) ] ]) ] ]
+    elim (cases-lt (turn q) (turn r)) [
+      | inl l ↦ inl (inl l)
+      | inr l ↦ elim (cases-lt (turn r) (turn q)) [
+        | inl m ↦ inr (inr (inl m))
+        | inr m ↦ (
+            let e : turn q ≡ turn r = omega arith in
+            elim (cases-lt (byte q) (byte r)) [
+              | inl b ↦ inl (inr (e, b))
+              | inr b ↦ elim (cases-lt (byte r) (byte q)) [
+                | inl d ↦ inr (inr (inr (sym e, d)))
+                | inr d ↦ inr (inl (same-rule q r e (omega arith)))
+              ]
+            ])
+      ]
+    ]

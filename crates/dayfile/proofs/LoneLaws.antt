@@ -36,6 +36,7 @@ module _ (b : List ℕ) where
       own : {x : Bool} → getD b 0 0 ≡ 71 → Tells (Owned 48 (resource-of b .«owner_count») (resource-of b .owners)) x → Denies (Breaks-alone b owners) x
       own e (holds p) = clear (λ x. x .1 p)
       own e (fails p) = broken (e, p)
+
       go : {x : Bool} → Tells (getD b 0 0 ≡ 71) x → Denies (Breaks-alone b owners) (cond x (owners-kept 48 (resource-of b .«owner_count») (resource-of b .owners)) true)
       go (holds e) = own e (kept-tells 48 (resource-of b .«owner_count») (resource-of b .owners))
       go (fails m) = clear (λ x. m (x .0))
@@ -44,9 +45,9 @@ module _ (b : List ℕ) where
   says =
       let c = getD b 0 0 in
       judged-says (Breaks-alone b) 0
-        (denies-not (tells-eqb (value 508 4 b) (weighed 0 (take 508 b))))
-        (denies-not (tells-or (tells-eqb c 68) (tells-or (tells-eqb c 80) (tells-or (tells-eqb c 71) (tells-eqb c 82)))))
-        (first-fault (table-for c) b) (λ o. first-least (table-for c) b) (clear (λ x. x)) owned-alone
+      (denies-not (tells-eqb (value 508 4 b) (weighed 0 (take 508 b))))
+      (denies-not (tells-or (tells-eqb c 68) (tells-or (tells-eqb c 80) (tells-or (tells-eqb c 71) (tells-eqb c 82)))))
+      (first-fault (table-for c) b) (λ o. first-least (table-for c) b) (clear (λ x. x)) owned-alone
 
   same-at : (q r : Rule) → refusal (at 0 q) ≡ refusal (at 0 r) → q ≡ r
   same-at q r e = let s = same-law (at 0 q) (at 0 r) e in cc
@@ -60,11 +61,13 @@ module _ (b : List ℕ) where
   first-refused : (o : Option Fault) → Says (Breaks-alone b) 0 o → (r : Rule) → First (Breaks-alone b) r → o ≡ Some (refusal (at 0 r))
   first-refused None h r g = absurd (h r (g .0))
   first-refused (Some x) h r g =
-      elim (line-rule r (h .0))
-      [ inl s ↦ absurd (h .1 .1 .1 r s (g .0))
-      | inr t ↦ elim t
-        [ inl e ↦ ap Some (h .1 .0 ∙ ap (λ q. refusal (at 0 q)) (sym e))
-        | inr s ↦ absurd (g .1 (h .0) s (h .1 .1 .0)) ] ]
+      elim (line-rule r (h .0)) [
+        | inl s ↦ absurd (h .1 .1 .1 r s (g .0))
+        | inr t ↦ elim t [
+          | inl e ↦ ap Some (h .1 .0 ∙ ap (λ q. refusal (at 0 q)) (sym e))
+          | inr s ↦ absurd (g .1 (h .0) s (h .1 .1 .0))
+        ]
+      ]
 
   none-unbroken : (o : Option Fault) → Says (Breaks-alone b) 0 o → o ≡ None → (r : Rule) → Breaks-alone b r → ⊥
   none-unbroken None h e = h
@@ -79,24 +82,28 @@ pub kept-lone : (r : Record) → Keeps 48 r → lone-fault (encode r) ≡ None
 kept-lone r k =
     let w = kept-fits 48 r (omega arith) k in
     none-judged 0 (checked (encode r)) (known (getD (encode r) 0 0)) (first-fault (table-for (getD (encode r) 0 0)) (encode r)) true (owned 48 (encode r))
-      (encode-checked r w) (encode-known r) (encode-fault r w ∙ kept-faultless 48 r (omega arith) k) refl (owned-is 48 r w ∙ kept-owners 48 r k)
+    (encode-checked r w) (encode-known r) (encode-fault r w ∙ kept-faultless 48 r (omega arith) k) refl (owned-is 48 r w ∙ kept-owners 48 r k)
 
 lone-kept : (b : List ℕ) → length b ≡ 512 → Bytes b → lone-fault b ≡ None → (r : Record) × (Keeps 48 r × (encode r ≡ b))
 lone-kept b l h e =
     let r = record-of b in
     let w = fitting-again b h in
     let a = lone-again b l h e in
-    let p = lone-parts b e in
-    ( r
-    , ( faultless-kept 48 r w (sym (encode-fault r w) ∙ ap (λ x. first-fault (table-for (getD x 0 0)) x) a ∙ p .2) (sym (owned-is 48 r w) ∙ ap (owned 48) a ∙ p .4)
-      , a ) )
+    let p = lone-parts b e in (
+      r,
+      (
+        faultless-kept 48 r w (sym (encode-fault r w) ∙ ap (λ x. first-fault (table-for (getD x 0 0)) x) a ∙ p .2) (sym (owned-is 48 r w) ∙ ap (owned 48) a ∙ p .4),
+        a,
+      ),
+    )
 
 pub ruled-alone : (b : List ℕ) → length b ≡ 512 → Bytes b → Ruled-alone b (lone-fault b)
 ruled-alone b l h =
-    record
-      { refused = λ r. (refused-first b (lone-fault b) (says b) r, first-refused b (lone-fault b) (says b) r)
-      ; unbroken = (none-unbroken b (lone-fault b) (says b), unbroken-none b (lone-fault b) (says b))
-      ; encodes = (lone-kept b l h, λ x. ap lone-fault (sym (x .1 .1)) ∙ kept-lone (x .0) (x .1 .0)) }
+    record {
+      refused = λ r. (refused-first b (lone-fault b) (says b) r, first-refused b (lone-fault b) (says b) r);
+      unbroken = (none-unbroken b (lone-fault b) (says b), unbroken-none b (lone-fault b) (says b));
+      encodes = (lone-kept b l h, λ x. ap lone-fault (sym (x .1 .1)) ∙ kept-lone (x .0) (x .1 .0));
+    }
 
 -- what is written at the front of a buffer is read, and reads back equal
 pub written-back : (r : Record) (was after : List ℕ) → Fitting r → Keeps 48 r → after ≡ encode r ++ drop 512 was → (lone-fault (take 512 after) ≡ None) × (record-of (take 512 after) ≡ r)

@@ -79,9 +79,9 @@ pub value-take : (n at w : ℕ) (bs : List ℕ) → at + w ≤ n → value at w 
 value-take n at w bs h =
     let e : at + (n - at) ≡ n = omega arith in
     ap number
-      ( ap (λ k. take w (drop at (take k bs))) (sym e)
-      ∙ ap (take w) (drop-take at (n - at) bs)
-      ∙ take-take w (n - at) (drop at bs) (omega arith) )
+    (ap (λ k. take w (drop at (take k bs))) (sym e)
+    ∙ ap (take w) (drop-take at (n - at) bs)
+    ∙ take-take w (n - at) (drop at bs) (omega arith))
 
 pub value-same : (n at w : ℕ) (xs ys : List ℕ) → at + w ≤ n → take n xs ≡ take n ys → value at w xs ≡ value at w ys
 value-same n at w xs ys h e = sym (value-take n at w xs h) ∙ ap (value at w) e ∙ value-take n at w ys h

@@ -99,11 +99,12 @@ placed-true least limit (o ∷ os) e =
     let q = and-parts (leb least (o .place)) (ltb (o .place) limit && ltb 0 (o .parts)) (p .0) in
     let r = and-parts (ltb (o .place) limit) (ltb 0 (o .parts)) (q .1) in
     let ih = placed-true (o .place + 1) limit os (p .1) in
-    record
-      { starts = leb-true _ _ (q .0)
-      ; rising = rises-more o os (ih .starts) (ih .rising)
-      ; below = (ltb-true _ _ (r .0), ih .below)
-      ; above = (ltb-true _ _ (r .1), ih .above) }
+    record {
+      starts = leb-true _ _ (q .0);
+      rising = rises-more o os (ih .starts) (ih .rising);
+      below = (ltb-true _ _ (r .0), ih .below);
+      above = (ltb-true _ _ (r .1), ih .above);
+    }
 
 true-placed : (least limit : ℕ) (os : List Owner) → Placed least limit os → placed least limit os ≡ true
 unfolding placed
@@ -111,7 +112,7 @@ true-placed least limit [] p = refl
 true-placed least limit (o ∷ os) p =
     let r = rises-less o os (p .rising) in
     and-from _ _ (and-from _ _ (le-leb _ _ (p .starts)) (and-from _ _ (lt-ltb _ _ (p .below .0)) (lt-ltb _ _ (p .above .0))))
-      (true-placed (o .place + 1) limit os (record { starts = r .0; rising = r .1; below = p .below .1; above = p .above .1 }))
+    (true-placed (o .place + 1) limit os (record { starts = r .0; rising = r .1; below = p .below .1; above = p .above .1 }))
 
 parts-sum : (os : List Owner) → parts-of os ≡ sum (map (λ o. o .parts) os)
 unfolding parts-of
@@ -161,17 +162,18 @@ kept-owned limit count os e =
     let p = and-parts (placed 0 limit (take count os) && eqb (parts-of (take count os)) 1000000) (vacant (drop count os)) e in
     let q = and-parts (placed 0 limit (take count os)) (eqb (parts-of (take count os)) 1000000) (p .0) in
     let r = placed-true 0 limit (take count os) (q .0) in
-    record
-      { rising = r .rising
-      ; below = r .below
-      ; above = r .above
-      ; whole = sym (parts-sum (take count os)) ∙ eqb-true _ _ (q .1)
-      ; unused = vacant-true (drop count os) (p .1) }
+    record {
+      rising = r .rising;
+      below = r .below;
+      above = r .above;
+      whole = sym (parts-sum (take count os)) ∙ eqb-true _ _ (q .1);
+      unused = vacant-true (drop count os) (p .1);
+    }
 
 pub owned-kept : (limit count : ℕ) (os : List Owner) → Owned limit count os → owners-kept limit count os ≡ true
 owned-kept limit count os o =
     and-from _ _
-      (and-from _ _
-        (true-placed 0 limit (take count os) (record { starts = starts-none (take count os); rising = o .rising; below = o .below; above = o .above }))
-        (eq-eqb _ _ (parts-sum (take count os) ∙ o .whole)))
-      (true-vacant (drop count os) (o .unused))
+    (and-from _ _
+    (true-placed 0 limit (take count os) (record { starts = starts-none (take count os); rising = o .rising; below = o .below; above = o .above }))
+    (eq-eqb _ _ (parts-sum (take count os) ∙ o .whole)))
+    (true-vacant (drop count os) (o .unused))

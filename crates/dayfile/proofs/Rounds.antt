@@ -35,7 +35,7 @@ grouped-six a b c d e f k = simp append-assoc
 
 grouped-all : (a b c d e f g h i j k l m n o p z : List ℕ)
     → (a ++ (b ++ (c ++ (d ++ (e ++ (f ++ (g ++ (h ++ (i ++ (j ++ (k ++ (l ++ (m ++ (n ++ (o ++ p))))))))))))))) ++ z
-      ≡ a ++ (b ++ (c ++ (d ++ (e ++ (f ++ (g ++ (h ++ (i ++ (j ++ (k ++ (l ++ (m ++ (n ++ (o ++ (p ++ z)))))))))))))))
+    ≡ a ++ (b ++ (c ++ (d ++ (e ++ (f ++ (g ++ (h ++ (i ++ (j ++ (k ++ (l ++ (m ++ (n ++ (o ++ (p ++ z)))))))))))))))
 grouped-all a b c d e f g h i j k l m n o p z = simp append-assoc
 
 pub reads-back : (r : Record) → Fitting r → record-of (encode r) ≡ r
@@ -47,29 +47,31 @@ reads-back (Day d) f =
 reads-back (Participant p) f =
     let k = digits 4 (weighed 0 (body (Participant p))) in
     ap (λ t. Participant (participant-of (80 ∷ 0 ∷ 0 ∷ 0 ∷ t)))
-      (grouped-five (digits 4 (p .number)) (joined load-bytes (p .loads)) (digits 4 (p .«network_load»)) (digits 4 (p .«scr_weight»)) (zeros 396) k)
+    (grouped-five (digits 4 (p .number)) (joined load-bytes (p .loads)) (digits 4 (p .«network_load»)) (digits 4 (p .«scr_weight»)) (zeros 396) k)
     ∙ ap Participant (participant-back p (zeros 396 ++ k) f)
 reads-back (Resource g) f =
     let k = digits 4 (weighed 0 (body (Resource g))) in
     ap (λ t. Resource (resource-of (71 ∷ t)))
-      (grouped-all (digits 1 (g .region)) (digits 1 (g .«minimum_run_hours»)) (digits 1 (g .«minimum_down_hours»)) (digits 4 (g .number)) (digits 4 (g .«start_up_cents»)) (digits 4 (g .«no_load_cents»))
-        (joined signed-bytes (g .prices)) (digits 1 (g .«hours_on_line»)) (digits 1 (g .«owner_count»)) (zeros 2) (digits 4 (g .«self_scheduled»)) (joined owner-bytes (g .owners))
-        (joined word-bytes (g .«cleared_kwh»)) (joined signed-bytes (g .lmps)) (joined flag-bytes (g .flags)) (zeros 124) k)
+    (grouped-all (digits 1 (g .region)) (digits 1 (g .«minimum_run_hours»)) (digits 1 (g .«minimum_down_hours»)) (digits 4 (g .number)) (digits 4 (g .«start_up_cents»)) (digits 4 (g .«no_load_cents»))
+    (joined signed-bytes (g .prices)) (digits 1 (g .«hours_on_line»)) (digits 1 (g .«owner_count»)) (zeros 2) (digits 4 (g .«self_scheduled»)) (joined owner-bytes (g .owners))
+    (joined word-bytes (g .«cleared_kwh»)) (joined signed-bytes (g .lmps)) (joined flag-bytes (g .flags)) (zeros 124) k)
     ∙ ap Resource (resource-back g (zeros 124 ++ k) f)
 reads-back (RealTime r) f =
     let k = digits 4 (weighed 0 (body (RealTime r))) in
     ap (λ t. RealTime (real-time-of (82 ∷ 0 ∷ 0 ∷ 0 ∷ t)))
-      (grouped-six (digits 4 (r .number)) (digits 4 (r .«economic_minimum_kwh»)) (joined hour-bytes (r .hours)) (joined event-bytes (r .events)) (joined flag-bytes (r .flags)) (zeros 160) k)
+    (grouped-six (digits 4 (r .number)) (digits 4 (r .«economic_minimum_kwh»)) (joined hour-bytes (r .hours)) (joined event-bytes (r .events)) (joined flag-bytes (r .flags)) (zeros 160) k)
     ∙ ap RealTime (real-time-back r (zeros 160 ++ k) f)
 
 -- THE KINDS of a block, by its letter
 pub letters : (k : ℕ) → known k ≡ true → (k ≡ 68) ⊎ ((k ≡ 80) ⊎ ((k ≡ 71) ⊎ (k ≡ 82)))
 letters k e =
-    elim (or-cases (eqb k 68) _ e)
-    [ inl p ↦ inl (eqb-true k 68 p)
-    | inr q ↦ elim (or-cases (eqb k 80) _ q)
-      [ inl p ↦ inr (inl (eqb-true k 80 p))
-      | inr r ↦ elim (or-cases (eqb k 71) (eqb k 82) r) [ inl p ↦ inr (inr (inl (eqb-true k 71 p))) | inr p ↦ inr (inr (inr (eqb-true k 82 p))) ] ] ]
+    elim (or-cases (eqb k 68) _ e) [
+      | inl p ↦ inl (eqb-true k 68 p)
+      | inr q ↦ elim (or-cases (eqb k 80) _ q) [
+        | inl p ↦ inr (inl (eqb-true k 80 p))
+        | inr r ↦ elim (or-cases (eqb k 71) (eqb k 82) r) [ inl p ↦ inr (inr (inl (eqb-true k 71 p))) | inr p ↦ inr (inr (inr (eqb-true k 82 p))) ]
+      ]
+    ]
 
 module _ (b : List ℕ) where
   pub record-day : getD b 0 0 ≡ 68 → record-of b ≡ Day (day-of b)
@@ -94,26 +96,28 @@ module _ (b : List ℕ) where
 
   pub kind-again : known (getD b 0 0) ≡ true → kind-of (record-of b) ≡ getD b 0 0
   kind-again e =
-      elim (letters (getD b 0 0) e)
-      [ inl k ↦ ap kind-of (record-day k) ∙ sym k
-      | inr (inl k) ↦ ap kind-of (record-participant k) ∙ sym k
-      | inr (inr (inl k)) ↦ ap kind-of (record-resource k) ∙ sym k
-      | inr (inr (inr k)) ↦ ap kind-of (record-real-time k) ∙ sym k ]
+      elim (letters (getD b 0 0) e) [
+        | inl k ↦ ap kind-of (record-day k) ∙ sym k
+        | inr (inl k) ↦ ap kind-of (record-participant k) ∙ sym k
+        | inr (inr (inl k)) ↦ ap kind-of (record-resource k) ∙ sym k
+        | inr (inr (inr k)) ↦ ap kind-of (record-real-time k) ∙ sym k
+      ]
 
   pub fitting-again : Bytes b → Fitting (record-of b)
   fitting-again h =
       cond-both (eqb (getD b 0 0) 68) _ _ Fitting (λ _. day-fits b h)
-        (λ _. cond-both (eqb (getD b 0 0) 80) _ _ Fitting (λ _. participant-fits b h)
-          (λ _. cond-both (eqb (getD b 0 0) 71) _ _ Fitting (λ _. resource-fits b h) (λ _. real-time-fits b h)))
+      (λ _. cond-both (eqb (getD b 0 0) 80) _ _ Fitting (λ _. participant-fits b h)
+      (λ _. cond-both (eqb (getD b 0 0) 71) _ _ Fitting (λ _. resource-fits b h) (λ _. real-time-fits b h)))
 
   -- WHAT WAS READ IS WRITTEN AGAIN
   pub body-again : length b ≡ 512 → Bytes b → known (getD b 0 0) ≡ true → first-fault (table-for (getD b 0 0)) b ≡ None → body (record-of b) ≡ take 508 b
   body-again l h e f =
-      elim (letters (getD b 0 0) e)
-      [ inl k ↦ ap body (record-day k) ∙ day-again b l h k (subst (λ n. first-fault (table-for n) b ≡ None) k f)
-      | inr (inl k) ↦ ap body (record-participant k) ∙ participant-again b l h k (subst (λ n. first-fault (table-for n) b ≡ None) k f)
-      | inr (inr (inl k)) ↦ ap body (record-resource k) ∙ resource-again b l h k (subst (λ n. first-fault (table-for n) b ≡ None) k f)
-      | inr (inr (inr k)) ↦ ap body (record-real-time k) ∙ real-time-again b l h k (subst (λ n. first-fault (table-for n) b ≡ None) k f) ]
+      elim (letters (getD b 0 0) e) [
+        | inl k ↦ ap body (record-day k) ∙ day-again b l h k (subst (λ n. first-fault (table-for n) b ≡ None) k f)
+        | inr (inl k) ↦ ap body (record-participant k) ∙ participant-again b l h k (subst (λ n. first-fault (table-for n) b ≡ None) k f)
+        | inr (inr (inl k)) ↦ ap body (record-resource k) ∙ resource-again b l h k (subst (λ n. first-fault (table-for n) b ≡ None) k f)
+        | inr (inr (inr k)) ↦ ap body (record-real-time k) ∙ real-time-again b l h k (subst (λ n. first-fault (table-for n) b ≡ None) k f)
+      ]
 
   sealed-again : length b ≡ 512 → Bytes b → checked b ≡ true → sealed (take 508 b) ≡ b
   sealed-again l h e =

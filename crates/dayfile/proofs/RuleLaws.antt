@@ -38,7 +38,7 @@ module _ (f : List ℕ) where
       let c = kind f (suc j) in
       let b = kind f j in
       tells-or (tells-and (tells-eqb c 80) (tells-or (tells-eqb b 68) (tells-eqb b 80)))
-        (tells-or (tells-eqb c 71) (tells-and (tells-eqb c 82) (tells-eqb b 71)))
+      (tells-or (tells-eqb c 71) (tells-and (tells-eqb c 82) (tells-eqb b 71)))
 
   -- a place that is told just where a fact holds
   least-if : {P : Type 0} {b : Bool} (p : ℕ) → Tells P b → Least (λ q. (q ≡ p) × P) (cond b (Some p) None)
@@ -88,13 +88,16 @@ module _ (f : List ℕ) where
     where
       one : (j i : ℕ) (h : (j < k) × (kind f j ≡ c) × ((i : ℕ) → j < i → i < k → kind f i ≡ c → ⊥)) → Last f i k → i ≡ j
       one j i h l =
-          elim (cases-lt i j)
-          [ inl s ↦ absurd (l .2 j s (h .0) (h .1 ∙ sym e))
-          | inr s ↦ elim (cases-lt j i) [ inl t ↦ absurd (h .2 i t (l .0) (l .1 ∙ e)) | inr t ↦ omega arith ] ]
+          elim (cases-lt i j) [
+            | inl s ↦ absurd (l .2 j s (h .0) (h .1 ∙ sym e))
+            | inr s ↦ elim (cases-lt j i) [ inl t ↦ absurd (h .2 i t (l .0) (l .1 ∙ e)) | inr t ↦ omega arith ]
+          ]
+
       under : {b : Bool} (m : ℕ) → Latest c k (Some m) → Tells (m < number-in f k) b → Denies (Below k) b
       under m h (holds l) = clear (λ b. let s = ap (number-in f) (one (h .0) (b .0) (h .1 .0, h .1 .1, h .1 .2) (b .1 .0)) in absurd (omega (arith, s, h .1 .3, b .1 .1, l)))
       under m h (fails g) =
           broken (h .0, ((h .1 .0, h .1 .1 ∙ sym e, λ i l s q. h .1 .2 i l s (q ∙ e)), elim (cases-lt m (number-in f k)) [ inl l ↦ absurd (g l) | inr l ↦ omega (arith, l, h .1 .3) ]))
+
       go : (o : Option ℕ) → Latest c k o → Denies (Below k) (above o (number-in f k))
       go None h = clear (λ b. h (b .0) (b .1 .0 .0) (b .1 .0 .1 ∙ e))
       go (Some m) h = under m h (tells-ltb m (number-in f k))
@@ -114,6 +117,7 @@ module _ (f : List ℕ) where
       own : {x : Bool} → kind f k ≡ 71 → Tells (Owned (tally 80 f k) (resource-of (block f k) .«owner_count») (resource-of (block f k) .owners)) x → Denies (Breaks f k owners) x
       own e (holds p) = clear (λ b. b .1 p)
       own e (fails p) = broken (e, p)
+
       go : {x : Bool} → Tells (kind f k ≡ 71) x
           → Denies (Breaks f k owners) (cond x (owners-kept (tally 80 f k) (resource-of (block f k) .«owner_count») (resource-of (block f k) .owners)) true)
       go (holds e) = own e (kept-tells (tally 80 f k) (resource-of (block f k) .«owner_count») (resource-of (block f k) .owners))
@@ -122,7 +126,7 @@ module _ (f : List ℕ) where
   block-says : (k : ℕ) → Says (Breaks f k) k (block-fault (standing f k) k (block f k))
   block-says k =
       judged-says (Breaks f k) k (denies-not (checked-tells k)) (denies-not (ordered-tells k)) (earlier (first-fault (table-for (kind f k)) (block f k)) (untied (standing f k) (block f k)))
-        (λ o. field-least k o) (rising-denies k) (owned-denies k)
+      (λ o. field-least k o) (rising-denies k) (owned-denies k)
 
   -- what n blocks from block k on say
   abbrev Blocks-say : ℕ → ℕ → Option Fault → Type 0
@@ -137,6 +141,7 @@ module _ (f : List ℕ) where
     where
       here : (P : ℕ → Type 0) (i : ℕ) → k ≤ i → P k → (k + 1 ≤ i → P i) → P i
       here P i l p q = elim (cases-lt k i) [ inl s ↦ q (omega arith) | inr s ↦ (let e : k ≡ i = omega arith in subst P e p) ]
+
       go : (o : Option Fault) → Says (Breaks f k) k o → (u : Option Fault) → Blocks-say (k + 1) n u → Blocks-say k (suc n) (or-else o u)
       go (Some x) h u g = (k, (h .0, (h .1 .0, omega arith, omega arith, h .1 .1, λ i l m q b. absurd (omega arith))))
       go None h None g = λ j l m. here (λ i. (r : Rule) → Breaks f i r → ⊥) j l h (λ s. g j s (omega arith))
@@ -191,6 +196,7 @@ module _ (f : List ℕ) where
       ends : {x : Bool} → (Broken f size → ⊥) → ((j : ℕ) → j < blocks f → (r : Rule) → Breaks f j r → ⊥) → Denies (Broken f counts) x → Verdict-says (cond x None (Some Counts))
       ends s p (clear c) = none-at-all s p c
       ends s p (broken c) = (counts, (refl, (c, none-before-counts s p)))
+
       go : {a b : Bool} → Denies (Broken f size) a → (o : Option Fault) → Blocks-say 0 (blocks f) o → Denies (Broken f counts) b
           → Verdict-says (cond a (or-else o (cond b None (Some Counts))) (Some Length))
       go (broken s) o h c = (size, (refl, (s, none-before-size)))
@@ -205,15 +211,18 @@ line size (at k r) = inl tt
 line size counts = inl tt
 line (at j q) size = inr (inr tt)
 line (at j q) (at k r) =
-    elim (cases-lt j k)
-    [ inl l ↦ inl (inl l)
-    | inr l ↦ elim (cases-lt k j)
-      [ inl m ↦ inr (inr (inl m))
-      | inr m ↦ (
-        let e : j ≡ k = omega arith in
-        elim (line-rule q r)
-        [ inl s ↦ inl (inr (e, s))
-        | inr t ↦ elim t [ inl u ↦ inr (inl (ap (λ n. at n q) e ∙ ap (at k) u)) | inr u ↦ inr (inr (inr (sym e, u))) ] ]) ] ]
+    elim (cases-lt j k) [
+      | inl l ↦ inl (inl l)
+      | inr l ↦ elim (cases-lt k j) [
+        | inl m ↦ inr (inr (inl m))
+        | inr m ↦ (
+            let e : j ≡ k = omega arith in
+            elim (line-rule q r) [
+              | inl s ↦ inl (inr (e, s))
+              | inr t ↦ elim t [ inl u ↦ inr (inl (ap (λ n. at n q) e ∙ ap (at k) u)) | inr u ↦ inr (inr (inr (sym e, u))) ]
+            ])
+      ]
+    ]
 line (at j q) counts = inl tt
 line counts size = inr (inr tt)
 line counts (at k r) = inr (inr tt)
@@ -274,11 +283,13 @@ module _ (f : List ℕ) where
   first-refused : (o : Option Fault) → Verdict-says f o → (l : Law) → First-broken f l → answer o ≡ Err (refusal l)
   first-refused None h l b = absurd (h l (b .0))
   first-refused (Some x) h l b =
-      elim (line l (h .0))
-      [ inl e ↦ absurd (h .1 .1 .1 l e (b .0))
-      | inr t ↦ elim t
-        [ inl e ↦ ap Err (h .1 .0 ∙ ap refusal (sym e))
-        | inr e ↦ absurd (b .1 (h .0) e (h .1 .1 .0)) ] ]
+      elim (line l (h .0)) [
+        | inl e ↦ absurd (h .1 .1 .1 l e (b .0))
+        | inr t ↦ elim t [
+          | inl e ↦ ap Err (h .1 .0 ∙ ap refusal (sym e))
+          | inr e ↦ absurd (b .1 (h .0) e (h .1 .1 .0))
+        ]
+      ]
 
   accepted-unbroken : (o : Option Fault) → Verdict-says f o → answer o ≡ Ok tt → (l : Law) → Broken f l → ⊥
   accepted-unbroken None h e = h
@@ -290,6 +301,7 @@ module _ (f : List ℕ) where
 
   pub ruled : Ruled f (answer (verdict f))
   ruled =
-      record
-        { refused = λ l. (refused-first (verdict f) says l, first-refused (verdict f) says l)
-        ; accepted = (accepted-unbroken (verdict f) says, unbroken-accepted (verdict f) says) }
+      record {
+        refused = λ l. (refused-first (verdict f) says l, first-refused (verdict f) says l);
+        accepted = (accepted-unbroken (verdict f) says, unbroken-accepted (verdict f) says);
+      }

@@ -74,31 +74,44 @@ rest (Participant p ∷ rs) s (Some g) w c = wrong (s .kind) 71 80 (w .0) refl (
 rest (Resource h ∷ rs) s None w c =
     let e = add-zero (s .participants) in
     let r = rest rs (step s (Resource h)) (Some h) (refl, refl, sound-of (c .0), subst (λ n. record-owned n (Resource h) ≡ true) (sym e) (c .0 .shared)) (c .1) in
-    let q = r .1 .1 in
-    ( (h, r .0) ∷ r .1 .0
-    , ( q .0
-      , (subst (λ n. Pair-sound n (h, r .0)) e (q .1), subst (λ n. All (Pair-sound n) (r .1 .0)) e (q .2))
-      , (c .0 .risen, q .3) ) )
+    let q = r .1 .1 in (
+      (h, r .0) ∷ r .1 .0,
+      (
+        q .0,
+        (subst (λ n. Pair-sound n (h, r .0)) e (q .1), subst (λ n. All (Pair-sound n) (r .1 .0)) e (q .2)),
+        (c .0 .risen, q .3),
+      ),
+    )
 rest (Resource h ∷ rs) s (Some g) w c =
     let e = add-zero (s .participants) in
     let r = rest rs (step s (Resource h)) (Some h) (refl, refl, sound-of (c .0), subst (λ n. record-owned n (Resource h) ≡ true) (sym e) (c .0 .shared)) (c .1) in
-    let q = r .1 .1 in
-    ( None
-    , ( (h, r .0) ∷ r .1 .0
-      , ( ap (λ xs. Resource g ∷ xs) (q .0)
-        , (w .2, w .3, tt)
-        , (subst (λ n. Pair-sound n (h, r .0)) e (q .1), subst (λ n. All (Pair-sound n) (r .1 .0)) e (q .2))
-        , (c .0 .risen, q .3) ) ) )
+    let q = r .1 .1 in (
+      None,
+      (
+        (h, r .0) ∷ r .1 .0,
+        (
+          ap (λ xs. Resource g ∷ xs) (q .0),
+          (w .2, w .3, tt),
+          (subst (λ n. Pair-sound n (h, r .0)) e (q .1), subst (λ n. All (Pair-sound n) (r .1 .0)) e (q .2)),
+          (c .0 .risen, q .3),
+        ),
+      ),
+    )
 rest (RealTime q ∷ rs) s None w c = wrong (s .kind) 82 82 w refl (c .0 .follows)
 rest (RealTime q ∷ rs) s (Some g) w c =
     let e = add-zero (s .participants) in
-    let r = rest rs (step s (RealTime q)) None refl (c .1) in
-    ( Some q
-    , ( r .0
-      , ( ap (λ xs. Resource g ∷ RealTime q ∷ xs) (r .1 .0)
-        , (w .2, w .3, (sound-of (c .0), c .0 .tied ∙ w .1))
-        , subst (λ n. All (Pair-sound n) (r .0)) e (r .1 .1)
-        , r .1 .2 ) ) )
+    let r = rest rs (step s (RealTime q)) None refl (c .1) in (
+      Some q,
+      (
+        r .0,
+        (
+          ap (λ xs. Resource g ∷ RealTime q ∷ xs) (r .1 .0),
+          (w .2, w .3, (sound-of (c .0), c .0 .tied ∙ w .1)),
+          subst (λ n. All (Pair-sound n) (r .0)) e (r .1 .1),
+          r .1 .2,
+        ),
+      ),
+    )
 
 -- participants, and Resources behind them
 pub record Phases (s : Before) (rs : List Record) : Type 0 where
@@ -123,26 +136,28 @@ phases (Participant p ∷ rs) s o c =
     let r = phases rs (step s (Participant p)) (inr refl) (c .1) in
     let e : s .participants + 1 + length (r .ps) ≡ s .participants + suc (length (r .ps)) = omega arith in
     let z = add-zero (s .resources) in
-    record
-      { ps = p ∷ r .ps
-      ; us = r .us
-      ; same = ap (λ xs. Participant p ∷ xs) (r .same)
-      ; sound = (sound-of (c .0), r .sound)
-      ; risen = (c .0 .risen, r .risen)
-      ; pairs = subst (λ n. All (Pair-sound n) (r .us)) e (r .pairs)
-      ; above = r .above }
+    record {
+      ps = p ∷ r .ps;
+      us = r .us;
+      same = ap (λ xs. Participant p ∷ xs) (r .same);
+      sound = (sound-of (c .0), r .sound);
+      risen = (c .0 .risen, r .risen);
+      pairs = subst (λ n. All (Pair-sound n) (r .us)) e (r .pairs);
+      above = r .above;
+    }
 phases (Resource g ∷ rs) s o c =
     let e = add-zero (s .participants) in
     let r = rest rs (step s (Resource g)) (Some g) (refl, refl, sound-of (c .0), subst (λ n. record-owned n (Resource g) ≡ true) (sym e) (c .0 .shared)) (c .1) in
     let q = r .1 .1 in
-    record
-      { ps = []
-      ; us = (g, r .0) ∷ r .1 .0
-      ; same = q .0
-      ; sound = tt
-      ; risen = tt
-      ; pairs = (q .1, q .2)
-      ; above = (c .0 .risen, q .3) }
+    record {
+      ps = [];
+      us = (g, r .0) ∷ r .1 .0;
+      same = q .0;
+      sound = tt;
+      risen = tt;
+      pairs = (q .1, q .2);
+      above = (c .0 .risen, q .3);
+    }
 phases (RealTime q ∷ rs) s o c = unopened s 82 o refl refl (c .0 .follows)
 
 -- a whole day
@@ -169,8 +184,13 @@ pub chain-shape : (rs : List Record) → 0 < length rs → Chain nothing rs → 
 chain-shape [] l c = absurd (omega arith)
 chain-shape (Day d ∷ rs) l c =
     let r = phases rs (step nothing (Day d)) (inl refl) (c .1) in
-    record { d = d; ps = r .ps; us = r .us; same = ap (λ xs. Day d ∷ xs) (r .same)
-           ; shaped = record { day = sound-of (c .0); sound = r .sound; risen = r .risen; pairs = subst (λ n. All (Pair-sound n) (r .us)) (zero-add (length (r .ps))) (r .pairs); above = r .above } }
+    record {
+      d = d;
+      ps = r .ps;
+      us = r .us;
+      same = ap (λ xs. Day d ∷ xs) (r .same);
+      shaped = record { day = sound-of (c .0); sound = r .sound; risen = r .risen; pairs = subst (λ n. All (Pair-sound n) (r .us)) (zero-add (length (r .ps))) (r .pairs); above = r .above };
+    }
 chain-shape (Participant p ∷ rs) l c = first-wrong 80 refl (c .0 .follows)
 chain-shape (Resource g ∷ rs) l c = first-wrong 71 refl (c .0 .follows)
 chain-shape (RealTime q ∷ rs) l c = first-wrong 82 refl (c .0 .follows)
@@ -179,18 +199,22 @@ chain-shape (RealTime q ∷ rs) l c = first-wrong 82 refl (c .0 .follows)
 pair-chain : (us : List Generator) (s : Before) (b : ℕ) → s .kind ≡ Some b → All (Pair-sound (s .participants)) us → Rises-behind (s .resource) (map pair-number us) → Chain s (joined generator-records us)
 pair-chain [] s b k a r = tt
 pair-chain ((g, None) ∷ us) s b k a r =
-    let e = sym (add-zero (s .participants)) in
-    ( record { fits = a .0 .0 .0; fields = a .0 .0 .1; follows = ap (λ o. in-order o 71) k ∙ behind b; tied = tt; risen = r .0; shared = a .0 .1 }
-    , pair-chain us (step s (Resource g)) 71 refl (subst (λ n. All (Pair-sound n) us) e (a .1)) (r .1) )
+    let e = sym (add-zero (s .participants)) in (
+      record { fits = a .0 .0 .0; fields = a .0 .0 .1; follows = ap (λ o. in-order o 71) k ∙ behind b; tied = tt; risen = r .0; shared = a .0 .1 },
+      pair-chain us (step s (Resource g)) 71 refl (subst (λ n. All (Pair-sound n) us) e (a .1)) (r .1),
+    )
   where
     behind : (b : ℕ) → in-order (Some b) 71 ≡ true
     behind b = refl
 pair-chain ((g, Some q) ∷ us) s b k a r =
     let e = sym (add-zero (s .participants)) in
-    let e2 = sym (add-zero (s .participants + 0)) in
-    ( record { fits = a .0 .0 .0; fields = a .0 .0 .1; follows = ap (λ o. in-order o 71) k; tied = tt; risen = r .0; shared = a .0 .1 }
-    , ( record { fits = a .0 .2 .0 .0; fields = a .0 .2 .0 .1; follows = refl; tied = a .0 .2 .1; risen = refl; shared = refl }
-      , pair-chain us (step (step s (Resource g)) (RealTime q)) 82 refl (subst (λ n. All (Pair-sound n) us) (e ∙ e2) (a .1)) (r .1) ) )
+    let e2 = sym (add-zero (s .participants + 0)) in (
+      record { fits = a .0 .0 .0; fields = a .0 .0 .1; follows = ap (λ o. in-order o 71) k; tied = tt; risen = r .0; shared = a .0 .1 },
+      (
+        record { fits = a .0 .2 .0 .0; fields = a .0 .2 .0 .1; follows = refl; tied = a .0 .2 .1; risen = refl; shared = refl },
+        pair-chain us (step (step s (Resource g)) (RealTime q)) 82 refl (subst (λ n. All (Pair-sound n) us) (e ∙ e2) (a .1)) (r .1),
+      ),
+    )
 
 opened : (s : Before) → Opening s → in-order (s .kind) 80 ≡ true
 opened s o = elim o [ inl e ↦ ap (λ x. in-order x 80) e | inr e ↦ ap (λ x. in-order x 80) e ]
@@ -203,14 +227,16 @@ part-chain : (ps : List ParticipantRecord) (us : List Generator) (s : Before) �
 part-chain [] us s o a r b t =
     let k = opening-kind s o in pair-chain us s (k .0) (k .1) (subst (λ n. All (Pair-sound n) us) (add-zero (s .participants)) b) t
 part-chain (p ∷ ps) us s o a r b t =
-    let e : s .participants + suc (length ps) ≡ s .participants + 1 + length ps = omega arith in
-    ( record { fits = a .0 .0; fields = a .0 .1; follows = opened s o; tied = tt; risen = r .0; shared = refl }
-    , part-chain ps us (step s (Participant p)) (inr refl) (a .1) (r .1) (subst (λ n. All (Pair-sound n) us) e b) t )
+    let e : s .participants + suc (length ps) ≡ s .participants + 1 + length ps = omega arith in (
+      record { fits = a .0 .0; fields = a .0 .1; follows = opened s o; tied = tt; risen = r .0; shared = refl },
+      part-chain ps us (step s (Participant p)) (inr refl) (a .1) (r .1) (subst (λ n. All (Pair-sound n) us) e b) t,
+    )
 
 pub shape-chain : (d : DayRecord) (ps : List ParticipantRecord) (us : List Generator) → Shaped d ps us → Chain nothing (day-records d ps us)
-shape-chain d ps us h =
-    ( record { fits = h .day .0; fields = h .day .1; follows = refl; tied = tt; risen = refl; shared = refl }
-    , part-chain ps us (step nothing (Day d)) (inl refl) (h .sound) (h .risen) (subst (λ n. All (Pair-sound n) us) (sym (zero-add (length ps))) (h .pairs)) (h .above) )
+shape-chain d ps us h = (
+  record { fits = h .day .0; fields = h .day .1; follows = refl; tied = tt; risen = refl; shared = refl },
+  part-chain ps us (step nothing (Day d)) (inl refl) (h .sound) (h .risen) (subst (λ n. All (Pair-sound n) us) (sym (zero-add (length ps))) (h .pairs)) (h .above),
+)
 
 -- what stands behind a whole day
 ends-pairs : (us : List Generator) (s : Before) → (ends s (joined generator-records us) .participants ≡ s .participants) × (ends s (joined generator-records us) .resources ≡ s .resources + length us)
@@ -238,6 +264,7 @@ day-ends d ps us =
     let s = step nothing (Day d) in
     let e = ends-parts ps (joined generator-records us) s in
     let h = ends-counts ps s in
-    let g = ends-pairs us (ends s (map Participant ps)) in
-    ( ap (λ (b : Before). b .participants) e ∙ g .0 ∙ h .0 ∙ zero-add (length ps)
-    , ap (λ (b : Before). b .resources) e ∙ g .1 ∙ ap (λ n. n + length us) (h .1) ∙ zero-add (length us) )
+    let g = ends-pairs us (ends s (map Participant ps)) in (
+      ap (λ (b : Before). b .participants) e ∙ g .0 ∙ h .0 ∙ zero-add (length ps),
+      ap (λ (b : Before). b .resources) e ∙ g .1 ∙ ap (λ n. n + length us) (h .1) ∙ zero-add (length us),
+    )

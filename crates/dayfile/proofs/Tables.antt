@@ -79,18 +79,21 @@ pub least-either : (F G : ℕ → Type 0) (a b : Option ℕ) → Least F a → L
 least-either F G None None f g = λ p h. elim h [ inl x ↦ f p x | inr y ↦ g p y ]
 least-either F G None (Some q) f g = (inr (g .0), λ p l h. elim h [ inl x ↦ f p x | inr y ↦ g .1 p l y ])
 least-either F G (Some p) None f g = (inl (f .0), λ q l h. elim h [ inl x ↦ f .1 q l x | inr y ↦ g q y ])
-least-either F G (Some p) (Some q) f g =
-    ( elim (cases-lt q p)
-      [ inl l ↦ (let e : q ≡ min p q = omega arith in inr (subst G e (g .0)))
-      | inr l ↦ (let e : p ≡ min p q = omega arith in inl (subst F e (f .0))) ]
-    , λ r l h. elim h [ inl x ↦ f .1 r (omega arith) x | inr y ↦ g .1 r (omega arith) y ] )
+least-either F G (Some p) (Some q) f g = (
+  elim (cases-lt q p) [
+    | inl l ↦ (let e : q ≡ min p q = omega arith in inr (subst G e (g .0)))
+    | inr l ↦ (let e : p ≡ min p q = omega arith in inl (subst F e (f .0)))
+  ],
+  λ r l h. elim h [ inl x ↦ f .1 r (omega arith) x | inr y ↦ g .1 r (omega arith) y ],
+)
 
 pub least-same : (F : ℕ → Type 0) (o : Option ℕ) (p : ℕ) → Least F o → F p → ((q : ℕ) → q < p → F q → ⊥) → o ≡ Some p
 least-same F None p h f l = absurd (h p f)
 least-same F (Some q) p h f l =
-    elim (cases-lt p q)
-    [ inl k ↦ absurd (h .1 p k f)
-    | inr k ↦ elim (cases-lt q p) [ inl m ↦ absurd (l q m (h .0)) | inr m ↦ (let e : q ≡ p = omega arith in ap Some e) ] ]
+    elim (cases-lt p q) [
+      | inl k ↦ absurd (h .1 p k f)
+      | inr k ↦ elim (cases-lt q p) [ inl m ↦ absurd (l q m (h .0)) | inr m ↦ (let e : q ≡ p = omega arith in ap Some e) ]
+    ]
 
 pub least-none : (F : ℕ → Type 0) (o : Option ℕ) → Least F o → ((p : ℕ) → F p → ⊥) → o ≡ None
 least-none F None h n = refl
@@ -191,10 +194,11 @@ first-none-nil b = refl
 pub sized-wide : (e : Entry) → sized e ≡ true → Wide (e .width)
 sized-wide e h =
     let w = and-parts (eqb (e .width) 1 || (eqb (e .width) 2 || eqb (e .width) 4)) _ h .0 in
-    elim (or-cases (eqb (e .width) 1) (eqb (e .width) 2 || eqb (e .width) 4) w)
-    [ inl p ↦ inl (eqb-true (e .width) 1 p)
-    | inr p ↦ elim (or-cases (eqb (e .width) 2) (eqb (e .width) 4) p)
-        [ inl q ↦ inr (inl (eqb-true (e .width) 2 q)) | inr q ↦ inr (inr (eqb-true (e .width) 4 q)) ] ]
+    elim (or-cases (eqb (e .width) 1) (eqb (e .width) 2 || eqb (e .width) 4) w) [
+      | inl p ↦ inl (eqb-true (e .width) 1 p)
+      | inr p ↦ elim (or-cases (eqb (e .width) 2) (eqb (e .width) 4) p)
+          [ inl q ↦ inr (inl (eqb-true (e .width) 2 q)) | inr q ↦ inr (inr (eqb-true (e .width) 4 q)) ]
+    ]
 
 pub sized-ends : (e : Entry) → sized e ≡ true → e .start + e .count * e .stride ≤ 508
 sized-ends e h =
@@ -226,9 +230,9 @@ from-same e (suc n) p xs ys h =
     let z : p + 0 * e .stride ≡ p = omega (arith, zero-mul (e .stride)) in
     let first : value p (e .width) xs ≡ value p (e .width) ys = subst (λ q. value q (e .width) xs ≡ value q (e .width) ys) z (h 0 (omega arith)) in
     let rest : fault-from e n (p + e .stride) xs ≡ fault-from e n (p + e .stride) ys
-             = from-same e n (p + e .stride) xs ys
-               (λ i l. let s : p + suc i * e .stride ≡ p + e .stride + i * e .stride = omega (arith, suc-mul i (e .stride)) in
-                       subst (λ q. value q (e .width) xs ≡ value q (e .width) ys) s (h (suc i) (omega arith))) in
+    = from-same e n (p + e .stride) xs ys
+    (λ i l. let s : p + suc i * e .stride ≡ p + e .stride + i * e .stride = omega (arith, suc-mul i (e .stride)) in
+    subst (λ q. value q (e .width) xs ≡ value q (e .width) ys) s (h (suc i) (omega arith))) in
     ap (λ v. cond (allows (e .limits) v) (fault-from e n (p + e .stride) xs) (Some p)) first
     ∙ ap (λ o. cond (allows (e .limits) (value p (e .width) ys)) o (Some p)) rest
 
@@ -265,7 +269,7 @@ from-push e (suc n) p b =
     let q : p + e .stride + n * e .stride ≡ p + suc n * e .stride = omega (arith, suc-mul n (e .stride)) in
     ap (λ m. isSome (fault-from e m p b)) s
     ∙ go (from-push e n (p + e .stride) b ∙ ap (λ k. isSome (fault-from e n (p + e .stride) b) || not (allows (e .limits) (value k (e .width) b))) q)
-      (allows (e .limits) (value p (e .width) b)) refl
+    (allows (e .limits) (value p (e .width) b)) refl
   where
     go : isSome (fault-from e (n + 1) (p + e .stride) b) ≡ (isSome (fault-from e n (p + e .stride) b) || not (allows (e .limits) (value (p + suc n * e .stride) (e .width) b)))
         → (t : Bool) → allows (e .limits) (value p (e .width) b) ≡ t
@@ -310,12 +314,13 @@ or-zero a b h =
 pub zeros-more : (bs : List ℕ) (i any : ℕ) → i < length bs → (any ≡ 0 → All (λ b. b ≡ 0) (take i bs)) × (All (λ b. b ≡ 0) (take i bs) → any ≡ 0)
     → (bitOr any (getD bs i 0) ≡ 0 → All (λ b. b ≡ 0) (take (i + 1) bs)) × (All (λ b. b ≡ 0) (take (i + 1) bs) → bitOr any (getD bs i 0) ≡ 0)
 zeros-more bs i any l (to, from) =
-    let n = length-take-le (i + 1) bs (omega arith) in
-    ( (λ h. let p = or-zero any (getD bs i 0) h in all-more (λ b. b ≡ 0) bs i 0 l (to (p .0)) (p .1))
-    , (λ h.
-        let here : getD bs i 0 ≡ 0 = sym (getD-take (i + 1) bs i 0 (omega arith)) ∙ all-getD (λ b. b ≡ 0) (take (i + 1) bs) i 0 (omega (arith, n)) h in
-        let before : All (λ b. b ≡ 0) (take i bs) = subst (All (λ b. b ≡ 0)) (take-take i (i + 1) bs (omega arith)) (all-take (λ b. b ≡ 0) i (take (i + 1) bs) h) in
-        ap (λ a. bitOr a (getD bs i 0)) (from before) ∙ here) )
+    let n = length-take-le (i + 1) bs (omega arith) in (
+      (λ h. let p = or-zero any (getD bs i 0) h in all-more (λ b. b ≡ 0) bs i 0 l (to (p .0)) (p .1)),
+      (λ h.
+          let here : getD bs i 0 ≡ 0 = sym (getD-take (i + 1) bs i 0 (omega arith)) ∙ all-getD (λ b. b ≡ 0) (take (i + 1) bs) i 0 (omega (arith, n)) h in
+          let before : All (λ b. b ≡ 0) (take i bs) = subst (All (λ b. b ≡ 0)) (take-take i (i + 1) bs (omega arith)) (all-take (λ b. b ≡ 0) i (take (i + 1) bs) h) in
+          ap (λ a. bitOr a (getD bs i 0)) (from before) ∙ here),
+    )
 
 -- unnamed bytes hold what they may where all are 0
 pub unnamed-holds : (e : Entry) (b : List ℕ) (n : ℕ) (r : Bool) → e .limits ≡ Unnamed → e .stride ≡ 1 → sized e ≡ true → n ≡ e .count → e .start + n ≤ length b

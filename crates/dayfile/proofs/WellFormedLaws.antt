@@ -78,26 +78,28 @@ module _ (d : DayRecord) (ps : List ParticipantRecord) (gs : List Generator) whe
   shaped-formed : Shaped d ps gs → d .participants ≡ length ps → d .resources ≡ length gs → WellFormed d ps gs
   shaped-formed h p r =
       let k = all-like (Pair-sound (length ps)) (λ g. ResourceKept (length ps) (g .0) × Real-time-kept g) gs (sound-generator (length ps)) (h .pairs) in
-      record
-        { day = sound-keeps 0 (Day d) (h .day) refl
-        ; participants = all-like (λ p. Sound (Participant p)) ParticipantKept ps (λ p s. sound-keeps 0 (Participant p) s refl) (h .sound)
-        ; participants-rise = to-rises (map (λ p. p .number) ps) (h .risen)
-        ; resources = all-like (λ g. ResourceKept (length ps) (g .0) × Real-time-kept g) (λ g. ResourceKept (length ps) (g .0)) gs (λ g x. x .0) k
-        ; resources-rise = to-rises (map (λ g. g .0 .number) gs) (h .above)
-        ; real-time = all-like (λ g. ResourceKept (length ps) (g .0) × Real-time-kept g) Real-time-kept gs (λ g x. x .1) k
-        ; participants-counted = p
-        ; resources-counted = r }
+      record {
+        day = sound-keeps 0 (Day d) (h .day) refl;
+        participants = all-like (λ p. Sound (Participant p)) ParticipantKept ps (λ p s. sound-keeps 0 (Participant p) s refl) (h .sound);
+        participants-rise = to-rises (map (λ p. p .number) ps) (h .risen);
+        resources = all-like (λ g. ResourceKept (length ps) (g .0) × Real-time-kept g) (λ g. ResourceKept (length ps) (g .0)) gs (λ g x. x .0) k;
+        resources-rise = to-rises (map (λ g. g .0 .number) gs) (h .above);
+        real-time = all-like (λ g. ResourceKept (length ps) (g .0) × Real-time-kept g) Real-time-kept gs (λ g x. x .1) k;
+        participants-counted = p;
+        resources-counted = r;
+      }
 
   formed-shaped : WellFormed d ps gs → Shaped d ps gs
   formed-shaped w =
       let few : length ps ≤ 2 ^ 16 = omega (arith, w .day .participants .1, w .participants-counted) in
-      record
-        { day = keeps-sound 0 (Day d) (omega arith) (w .day) .0
-        ; sound = all-like ParticipantKept (λ p. Sound (Participant p)) ps (λ p k. keeps-sound 0 (Participant p) (omega arith) k .0) (w .participants)
-        ; risen = from-rises (map (λ p. p .number) ps) (w .participants-rise)
-        ; pairs = all-like (λ g. ResourceKept (length ps) (g .0) × Real-time-kept g) (Pair-sound (length ps)) gs (generator-sound (length ps) few)
-            (all-both (λ g. ResourceKept (length ps) (g .0)) Real-time-kept gs (w .resources) (w .real-time))
-        ; above = from-rises (map (λ g. g .0 .number) gs) (w .resources-rise) }
+      record {
+        day = keeps-sound 0 (Day d) (omega arith) (w .day) .0;
+        sound = all-like ParticipantKept (λ p. Sound (Participant p)) ps (λ p k. keeps-sound 0 (Participant p) (omega arith) k .0) (w .participants);
+        risen = from-rises (map (λ p. p .number) ps) (w .participants-rise);
+        pairs = all-like (λ g. ResourceKept (length ps) (g .0) × Real-time-kept g) (Pair-sound (length ps)) gs (generator-sound (length ps) few)
+            (all-both (λ g. ResourceKept (length ps) (g .0)) Real-time-kept gs (w .resources) (w .real-time));
+        above = from-rises (map (λ g. g .0 .number) gs) (w .resources-rise);
+      }
 
 -- the records of a file that is a chain's joined blocks
 reads-all : (rs : List Record) (s : Before) (f rest : List ℕ) (k : ℕ) → drop (512 * k) f ≡ joined encode rs ++ rest → Chain s rs → records-from f k (length rs) ≡ rs
@@ -109,7 +111,7 @@ reads-all (r ∷ rs) s f rest k e c =
     let b : block f k ≡ encode r = ap (take 512) a ∙ take-at (encode r) (joined encode rs ++ rest) 512 n in
     let t : 512 * k + 512 ≡ 512 * (k + 1) = omega arith in
     let d : drop (512 * (k + 1)) f ≡ joined encode rs ++ rest =
-        ap (λ i. drop i f) (sym t) ∙ sym (drop-drop 512 (512 * k) f) ∙ ap (drop 512) a ∙ drop-at (encode r) (joined encode rs ++ rest) 512 n in
+    ap (λ i. drop i f) (sym t) ∙ sym (drop-drop 512 (512 * k) f) ∙ ap (drop 512) a ∙ drop-at (encode r) (joined encode rs ++ rest) 512 n in
     ap (λ x. x ∷ records-from f (k + 1) (length rs)) (ap record-of b ∙ reads-back r (c .0 .fits))
     ∙ ap (λ x. r ∷ x) (reads-all rs (step s r) f rest (k + 1) d (c .1))
 
@@ -124,7 +126,7 @@ module _ (f : List ℕ) (h : Bytes f) where
   formed-accepted d ps gs e =
       let w = e .0 in
       ap answer (shaped-accepted d ps gs (formed-shaped d ps gs w) (w .participants-counted) (w .resources-counted)
-        (omega (arith, w .day .participants .1, w .participants-counted)) (omega (arith, w .day .resources, w .resources-counted)) f (e .1))
+      (omega (arith, w .day .participants .1, w .participants-counted)) (omega (arith, w .day .resources, w .resources-counted)) f (e .1))
 
   formed-shown : (d : DayRecord) (ps : List ParticipantRecord) (gs : List Generator) → Encodes f d ps gs → records f ≡ day-records d ps gs
   formed-shown d ps gs e =

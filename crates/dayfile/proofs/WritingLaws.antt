@@ -40,29 +40,33 @@ clash z = absurd (omega arith)
 module _ (F : ℕ → Type 0) (S K : Type 0) (room : ℕ) where
   answers : (o : Option ℕ) → Least F o → {a b : Bool} → Tells S a → Tells (room < 512) b → (K → o ≡ None) → (K → S) → (o ≡ None → S → K) → Answers F S K room (says o a b)
   answers (Some p) l s t n k m =
-      record
-        { written = (λ e. clash (cc), λ x. let q = n (x .0) in clash (cc))
-        ; field = λ q. ((λ e. let same : p ≡ q = cc in subst (λ i. F i × ((j : ℕ) → j < i → F j → ⊥)) same l), λ x. let e = least-same F (Some p) q l (x .0) (x .1) in let same : p ≡ q = cc in ap (λ i. Err (RecordField i)) same)
-        ; owners = (λ e. clash (cc), λ x. absurd (x .0 p (l .0)))
-        ; short = (λ e. clash (cc), λ x. let q = n (x .0) in clash (cc)) }
+      record {
+        written = (λ e. clash (cc), λ x. let q = n (x .0) in clash (cc));
+        field = λ q. ((λ e. let same : p ≡ q = cc in subst (λ i. F i × ((j : ℕ) → j < i → F j → ⊥)) same l), λ x. let e = least-same F (Some p) q l (x .0) (x .1) in let same : p ≡ q = cc in ap (λ i. Err (RecordField i)) same);
+        owners = (λ e. clash (cc), λ x. absurd (x .0 p (l .0)));
+        short = (λ e. clash (cc), λ x. let q = n (x .0) in clash (cc));
+      }
   answers None l (fails s) t n k m =
-      record
-        { written = (λ e. clash (cc), λ x. absurd (s (k (x .0))))
-        ; field = λ q. ((λ e. clash (cc)), λ x. absurd (l q (x .0)))
-        ; owners = (λ e. (l, s), λ x. refl)
-        ; short = (λ e. clash (cc), λ x. absurd (s (k (x .0)))) }
+      record {
+        written = (λ e. clash (cc), λ x. absurd (s (k (x .0))));
+        field = λ q. ((λ e. clash (cc)), λ x. absurd (l q (x .0)));
+        owners = (λ e. (l, s), λ x. refl);
+        short = (λ e. clash (cc), λ x. absurd (s (k (x .0))));
+      }
   answers None l (holds s) (holds t) n k m =
-      record
-        { written = (λ e. clash (cc), λ x. absurd (omega (arith, x .1)))
-        ; field = λ q. ((λ e. clash (cc)), λ x. absurd (l q (x .0)))
-        ; owners = (λ e. clash (cc), λ x. absurd (x .1 s))
-        ; short = (λ e. (m refl s, t), λ x. refl) }
+      record {
+        written = (λ e. clash (cc), λ x. absurd (omega (arith, x .1)));
+        field = λ q. ((λ e. clash (cc)), λ x. absurd (l q (x .0)));
+        owners = (λ e. clash (cc), λ x. absurd (x .1 s));
+        short = (λ e. (m refl s, t), λ x. refl);
+      }
   answers None l (holds s) (fails t) n k m =
-      record
-        { written = (λ e. (m refl s, elim (cases-lt room 512) [ inl h ↦ absurd (t h) | inr h ↦ h ]), λ x. refl)
-        ; field = λ q. ((λ e. clash (cc)), λ x. absurd (l q (x .0)))
-        ; owners = (λ e. clash (cc), λ x. absurd (x .1 s))
-        ; short = (λ e. clash (cc), λ x. absurd (t (x .1))) }
+      record {
+        written = (λ e. (m refl s, elim (cases-lt room 512) [ inl h ↦ absurd (t h) | inr h ↦ h ]), λ x. refl);
+        field = λ q. ((λ e. clash (cc)), λ x. absurd (l q (x .0)));
+        owners = (λ e. clash (cc), λ x. absurd (x .1 s));
+        short = (λ e. clash (cc), λ x. absurd (t (x .1)));
+      }
 
 shared-tells : (r : Record) → Tells (Shared-out r) (record-owned 48 r)
 shared-tells (Day d) = holds tt
@@ -81,5 +85,5 @@ tells (fails p) h = absurd (p h)
 pub written-only : (r : Record) (room : ℕ) → Fitting r → Written-only r room (answer (unwritten r room))
 written-only r room w =
     let a = answers (Faulty (table-for (kind-of r)) (body r)) (Shared-out r) (Keeps 48 r) room (first-fault (table-for (kind-of r)) (body r)) (first-least (table-for (kind-of r)) (body r))
-        (shared-tells r) (tells-ltb room 512) (λ k. kept-faultless 48 r (omega arith) k) (λ k. told (shared-tells r) (kept-owners 48 r k)) (λ e s. faultless-kept 48 r w e (tells (shared-tells r) s)) in
+    (shared-tells r) (tells-ltb room 512) (λ k. kept-faultless 48 r (omega arith) k) (λ k. told (shared-tells r) (kept-owners 48 r k)) (λ e s. faultless-kept 48 r w e (tells (shared-tells r) s)) in
     record { written = a .written; field = a .field; owners = a .owners; short = a .short }

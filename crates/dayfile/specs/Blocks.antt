@@ -28,31 +28,34 @@ Shows b (RealTimeBlock number minimum hours events flags) =
 abbrev pub shown : Block → Record
 shown (DayBlock head) = Day (day-from (now head))
 shown (ParticipantBlock number loads weights) =
-    Participant (record
-      { number = value 0 4 (now number)
-      ; loads = each load-from 12 8 (now loads)
-      ; «network_load» = value 0 4 (now weights)
-      ; «scr_weight» = value 4 4 (now weights) })
+    Participant (record {
+      number = value 0 4 (now number);
+      loads = each load-from 12 8 (now loads);
+      «network_load» = value 0 4 (now weights);
+      «scr_weight» = value 4 4 (now weights);
+    })
 shown (ResourceBlock region run down number fees prices status owners cleared lmps flags) =
-    Resource (record
-      { region = region
-      ; «minimum_run_hours» = run
-      ; «minimum_down_hours» = down
-      ; number = value 0 4 (now number)
-      ; «start_up_cents» = value 0 4 (now fees)
-      ; «no_load_cents» = value 4 4 (now fees)
-      ; prices = each signed-from 4 24 (now prices)
-      ; «hours_on_line» = getD (now status) 0 0
-      ; «owner_count» = getD (now status) 1 0
-      ; «self_scheduled» = value 4 4 (now status)
-      ; owners = each owner-from 6 8 (now owners)
-      ; «cleared_kwh» = each word-from 4 24 (now cleared)
-      ; lmps = each signed-from 4 24 (now lmps)
-      ; flags = each flag-from 1 24 (now flags) })
+    Resource (record {
+      region = region;
+      «minimum_run_hours» = run;
+      «minimum_down_hours» = down;
+      number = value 0 4 (now number);
+      «start_up_cents» = value 0 4 (now fees);
+      «no_load_cents» = value 4 4 (now fees);
+      prices = each signed-from 4 24 (now prices);
+      «hours_on_line» = getD (now status) 0 0;
+      «owner_count» = getD (now status) 1 0;
+      «self_scheduled» = value 4 4 (now status);
+      owners = each owner-from 6 8 (now owners);
+      «cleared_kwh» = each word-from 4 24 (now cleared);
+      lmps = each signed-from 4 24 (now lmps);
+      flags = each flag-from 1 24 (now flags);
+    })
 shown (RealTimeBlock number minimum hours events flags) =
-    RealTime (record
-      { number = value 0 4 (now number)
-      ; «economic_minimum_kwh» = value 0 4 (now minimum)
-      ; hours = each hour-from 12 24 (now hours)
-      ; events = each event-from 1 24 (now events)
-      ; flags = each flag-from 1 24 (now flags) })
+    RealTime (record {
+      number = value 0 4 (now number);
+      «economic_minimum_kwh» = value 0 4 (now minimum);
+      hours = each hour-from 12 24 (now hours);
+      events = each event-from 1 24 (now events);
+      flags = each flag-from 1 24 (now flags);
+    })

@@ -5,7 +5,7 @@ use Rattle.dayfile.specs.declared.fault.Fault.the-variants.{Length, Check, Ord
 use Rattle.dayfile.specs.declared.fault.Layer.{Layer}
 use Rattle.dayfile.specs.declared.fault.Layer.the-variants.{File, Block, End, Settling, Posting, Withdrawing, Closing, Writing, Grid}
 use Rattle.dayfile.specs.declared.fault.Place.{Place}
-use Rattle.dayfile.specs.declared.fault.Place.the-variants.{Nowhere, Byte, Hour, Pool, Row} 
+use Rattle.dayfile.specs.declared.fault.Place.the-variants.{Nowhere, Byte, Hour, Pool, Row}
 use Rattle.dayfile.specs.declared.fault.Place.the-variants.{Block as AtBlock, Field as AtField}
 
 -- what a refusal says: its number, the layer at which the call stopped, and what it tells

@@ -49,13 +49,14 @@ number-before f (suc k) = number-in f k
 -- what stands before block k
 abbrev pub standing : List ℕ → ℕ → Before
 standing f k =
-    record
-      { kind = kind-before f k
-      ; number = number-before f k
-      ; participants = tally 80 f k
-      ; resources = tally 71 f k
-      ; participant = latest 80 f k
-      ; resource = latest 71 f k }
+    record {
+      kind = kind-before f k;
+      number = number-before f k;
+      participants = tally 80 f k;
+      resources = tally 71 f k;
+      participant = latest 80 f k;
+      resource = latest 71 f k;
+    }
 
 -- nothing stands before the first block
 abbrev pub nothing : Before
@@ -64,13 +65,14 @@ nothing = record { kind = None; number = 0; participants = 0; resources = 0; par
 -- what stands before the block behind b
 abbrev pub after : Before → List ℕ → Before
 after s b =
-    record
-      { kind = Some (getD b 0 0)
-      ; number = value 4 4 b
-      ; participants = s .participants + cond (eqb (getD b 0 0) 80) 1 0
-      ; resources = s .resources + cond (eqb (getD b 0 0) 71) 1 0
-      ; participant = cond (eqb (getD b 0 0) 80) (Some (value 4 4 b)) (s .participant)
-      ; resource = cond (eqb (getD b 0 0) 71) (Some (value 4 4 b)) (s .resource) }
+    record {
+      kind = Some (getD b 0 0);
+      number = value 4 4 b;
+      participants = s .participants + cond (eqb (getD b 0 0) 80) 1 0;
+      resources = s .resources + cond (eqb (getD b 0 0) 71) 1 0;
+      participant = cond (eqb (getD b 0 0) 80) (Some (value 4 4 b)) (s .participant);
+      resource = cond (eqb (getD b 0 0) 71) (Some (value 4 4 b)) (s .resource);
+    }
 
 -- a block's check is the sum over its bytes
 abbrev pub checked : List ℕ → Bool
@@ -102,12 +104,13 @@ owned limit b = cond (eqb (getD b 0 0) 71) (owners-kept limit (resource-of b .«
 abbrev pub judged : ℕ → Bool → Bool → Option ℕ → Bool → Bool → Option Fault
 judged k check order field rise owners =
     cond check
-      (cond order
-        (elim field
-          [ Some p ↦ Some (Field k p)
-          | None ↦ cond rise (cond owners None (Some (Owners k))) (Some (Rising k)) ])
-        (Some (Order k)))
-      (Some (Check k))
+    (cond order
+    (elim field [
+      | Some p ↦ Some (Field k p)
+      | None ↦ cond rise (cond owners None (Some (Owners k))) (Some (Rising k))
+    ])
+    (Some (Order k)))
+    (Some (Check k))
 
 -- the first fault of block k behind what stands before it
 abbrev pub block-fault : Before → ℕ → List ℕ → Option Fault

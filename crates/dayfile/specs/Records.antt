@@ -102,38 +102,41 @@ day-of b = day-from (part 4 8 b)
 
 abbrev pub participant-of : List ℕ → ParticipantRecord
 participant-of b =
-    record
-      { number = value 0 4 (part 4 4 b)
-      ; loads = each load-from 12 8 (part 8 96 b)
-      ; «network_load» = value 0 4 (part 104 8 b)
-      ; «scr_weight» = value 4 4 (part 104 8 b) }
+    record {
+      number = value 0 4 (part 4 4 b);
+      loads = each load-from 12 8 (part 8 96 b);
+      «network_load» = value 0 4 (part 104 8 b);
+      «scr_weight» = value 4 4 (part 104 8 b);
+    }
 
 abbrev pub resource-of : List ℕ → ResourceRecord
 resource-of b =
-    record
-      { region = getD b 1 0
-      ; «minimum_run_hours» = getD b 2 0
-      ; «minimum_down_hours» = getD b 3 0
-      ; number = value 0 4 (part 4 4 b)
-      ; «start_up_cents» = value 0 4 (part 8 8 b)
-      ; «no_load_cents» = value 4 4 (part 8 8 b)
-      ; prices = each signed-from 4 24 (part 16 96 b)
-      ; «hours_on_line» = getD (part 112 8 b) 0 0
-      ; «owner_count» = getD (part 112 8 b) 1 0
-      ; «self_scheduled» = value 4 4 (part 112 8 b)
-      ; owners = each owner-from 6 8 (part 120 48 b)
-      ; «cleared_kwh» = each word-from 4 24 (part 168 96 b)
-      ; lmps = each signed-from 4 24 (part 264 96 b)
-      ; flags = each flag-from 1 24 (part 360 24 b) }
+    record {
+      region = getD b 1 0;
+      «minimum_run_hours» = getD b 2 0;
+      «minimum_down_hours» = getD b 3 0;
+      number = value 0 4 (part 4 4 b);
+      «start_up_cents» = value 0 4 (part 8 8 b);
+      «no_load_cents» = value 4 4 (part 8 8 b);
+      prices = each signed-from 4 24 (part 16 96 b);
+      «hours_on_line» = getD (part 112 8 b) 0 0;
+      «owner_count» = getD (part 112 8 b) 1 0;
+      «self_scheduled» = value 4 4 (part 112 8 b);
+      owners = each owner-from 6 8 (part 120 48 b);
+      «cleared_kwh» = each word-from 4 24 (part 168 96 b);
+      lmps = each signed-from 4 24 (part 264 96 b);
+      flags = each flag-from 1 24 (part 360 24 b);
+    }
 
 abbrev pub real-time-of : List ℕ → RealTimeRecord
 real-time-of b =
-    record
-      { number = value 0 4 (part 4 4 b)
-      ; «economic_minimum_kwh» = value 0 4 (part 8 4 b)
-      ; hours = each hour-from 12 24 (part 12 288 b)
-      ; events = each event-from 1 24 (part 300 24 b)
-      ; flags = each flag-from 1 24 (part 324 24 b) }
+    record {
+      number = value 0 4 (part 4 4 b);
+      «economic_minimum_kwh» = value 0 4 (part 8 4 b);
+      hours = each hour-from 12 24 (part 12 288 b);
+      events = each event-from 1 24 (part 300 24 b);
+      flags = each flag-from 1 24 (part 324 24 b);
+    }
 
 -- THE RECORD of a block, by the letter that it begins with: D, P, G, and R otherwise
 abbrev pub record-of : List ℕ → Record

@@ -63,9 +63,10 @@ record-owned limit (RealTime r) = true
 -- why a record is not written into so much room: its first faulty field, its owners, or the room
 abbrev pub unwritten : Record → ℕ → Option Fault
 unwritten r room =
-    elim (first-fault (table-for (kind-of r)) (body r))
-      [ Some p ↦ Some (RecordField p)
-      | None ↦ cond (record-owned 48 r) (cond (ltb room 512) (Some Room) None) (Some RecordOwners) ]
+    elim (first-fault (table-for (kind-of r)) (body r)) [
+      | Some p ↦ Some (RecordField p)
+      | None ↦ cond (record-owned 48 r) (cond (ltb room 512) (Some Room) None) (Some RecordOwners)
+    ]
 
 -- a call that may be refused: refused, it leaves all as it was
 abbrev pub Done : {S : Type 0} → Option Fault → S → S → Result (Unit {0}) Fault → S → Type 0

@@ -53,7 +53,11 @@ impl<'f> AdmittedDay<'f> {
     pub fn block(&self, k: usize) -> Option<Block<'f>>
         ensures { λ r. ⌜ BySome r (blocks (now (now (self .entry) .file)) ≤ k) (λ b. (k < blocks (now (now (self .entry) .file))) × Shows (block (now (now (self .entry) .file)) k) b × (shown b ≡ record-of (block (now (now (self .entry) .file)) k))) ⌝ }
     {
-        if k < self.blocks() { parts(block_at(self.file, k)) } else { None }
+        if k < self.blocks() {
+            parts(block_at(self.file, k))
+        } else {
+            None
+        }
     }
 
     /// Record `k`.

@@ -4,9 +4,15 @@
 #[derive(Clone, Copy)]
 pub enum Block<'f> {
     /// D: the date, the version and the two counts.
-    Day { head: &'f [u8] },
+    Day {
+        head: &'f [u8],
+    },
     /// P: the participant, its loads region by region, its network load and SCR weight.
-    Participant { number: &'f [u8], loads: &'f [u8], weights: &'f [u8] },
+    Participant {
+        number: &'f [u8],
+        loads: &'f [u8],
+        weights: &'f [u8],
+    },
     /// G: a Resource with its day-ahead hours; `status` has the hours on line, the count of owners and the Self-Scheduled hours.
     Resource {
         region: u8,
@@ -22,5 +28,11 @@ pub enum Block<'f> {
         flags: &'f [u8],
     },
     /// R: a Resource's real-time hours.
-    RealTime { number: &'f [u8], minimum: &'f [u8], hours: &'f [u8], events: &'f [u8], flags: &'f [u8] },
+    RealTime {
+        number: &'f [u8],
+        minimum: &'f [u8],
+        hours: &'f [u8],
+        events: &'f [u8],
+        flags: &'f [u8],
+    },
 }

@@ -29,7 +29,12 @@ pub(crate) fn word_at(bytes: &[u8], at: usize) -> u32
     if at + 4 <= bytes.len() {
         word_inside(bytes, at)
     } else {
-        u32::from_le_bytes([byte_at(bytes, at), byte_at(bytes, at + 1), byte_at(bytes, at + 2), byte_at(bytes, at + 3)])
+        u32::from_le_bytes([
+            byte_at(bytes, at),
+            byte_at(bytes, at + 1),
+            byte_at(bytes, at + 2),
+            byte_at(bytes, at + 3),
+        ])
     }
 }
 
@@ -44,10 +49,15 @@ pub(crate) fn word_inside(bytes: &[u8], at: usize) -> u32
 /// What stands several times in a row in a block: an hour's price, a region's loads, an owner.
 pub(crate) trait Part {
     ghost width: { ℕ };
+
     ghost bytes: { Self → List ℕ };
+
     ghost from: { List ℕ → Self };
+
     ghost long: { ((x : Self) → length (bytes x) ≡ width) };
+
     ghost few: { width < 256 };
+
     ghost fits: { Self → Type 0 };
 
     fn width() -> usize

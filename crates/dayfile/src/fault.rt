@@ -122,11 +122,23 @@ impl Fault {
     {
         match self {
             Fault::Length => Layer::File,
-            Fault::Check { .. } | Fault::Order { .. } | Fault::Field { .. } | Fault::Rising { .. } | Fault::Owners { .. } => Layer::Block,
+            Fault::Check { .. }
+            | Fault::Order { .. }
+            | Fault::Field { .. }
+            | Fault::Rising { .. }
+            | Fault::Owners { .. } => Layer::Block,
             Fault::Counts => Layer::End,
-            Fault::Event { .. } | Fault::PoolCost { .. } | Fault::TariffPlaces | Fault::PoolWeight { .. } => Layer::Settling,
-            Fault::PostingRows | Fault::OtherSheet | Fault::PostingClosed | Fault::Held { .. } | Fault::NoRow => Layer::Posting,
-            Fault::WithdrawingRows | Fault::WithdrawingClosed | Fault::NotHeld => Layer::Withdrawing,
+            Fault::Event { .. }
+            | Fault::PoolCost { .. }
+            | Fault::TariffPlaces
+            | Fault::PoolWeight { .. } => Layer::Settling,
+            Fault::PostingRows
+            | Fault::OtherSheet
+            | Fault::PostingClosed
+            | Fault::Held { .. }
+            | Fault::NoRow => Layer::Posting,
+            Fault::WithdrawingRows | Fault::WithdrawingClosed | Fault::NotHeld =>
+                Layer::Withdrawing,
             Fault::ClosingDate => Layer::Closing,
             Fault::RecordField { .. } | Fault::RecordOwners | Fault::Room => Layer::Writing,
             Fault::NoResource | Fault::GridEvent => Layer::Grid,
@@ -138,7 +150,10 @@ impl Fault {
         ensures { λ r. ⌜ r ≡ place-of self ⌝ }
     {
         match self {
-            Fault::Check { block } | Fault::Order { block } | Fault::Rising { block } | Fault::Owners { block } => Place::Block { block },
+            Fault::Check { block }
+            | Fault::Order { block }
+            | Fault::Rising { block }
+            | Fault::Owners { block } => Place::Block { block },
             Fault::Field { block, byte } => Place::Field { block, byte },
             Fault::Event { block, hour } => Place::Hour { block, hour },
             Fault::PoolCost { pool } | Fault::PoolWeight { pool } => Place::Pool { pool },

@@ -42,7 +42,11 @@ fn judge_file(file: &[u8]) -> Result<(), Fault>
         return Err(Fault::Length);
     }
     let before = judge_blocks(file)?;
-    if before.participants == file[10] as usize && before.resources == file[11] as usize { Ok(()) } else { Err(Fault::Counts) }
+    if before.participants == file[10] as usize && before.resources == file[11] as usize {
+        Ok(())
+    } else {
+        Err(Fault::Counts)
+    }
 }
 
 /// The first fault of a file's blocks, or what stands behind them.

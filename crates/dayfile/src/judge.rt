@@ -31,7 +31,9 @@ fn may_follow(before: Option<u8>, kind: u8) -> bool
 {
     match before {
         None => kind == b'D',
-        Some(last) => kind == b'P' && (last == b'D' || last == b'P') || kind == b'G' || kind == b'R' && last == b'G',
+        Some(last) => kind == b'P' && (last == b'D' || last == b'P')
+            || kind == b'G'
+            || kind == b'R' && last == b'G',
     }
 }
 
@@ -70,7 +72,11 @@ pub(crate) fn judge_alone(block: &[u8]) -> Result<(), Fault>
     if let Some(byte) = field_fault(table_for(block[0]), block) {
         return Err(Fault::Field { block: 0, byte });
     }
-    if is_owned(block, PLACES) { Ok(()) } else { Err(Fault::Owners { block: 0 }) }
+    if is_owned(block, PLACES) {
+        Ok(())
+    } else {
+        Err(Fault::Owners { block: 0 })
+    }
 }
 
 /// Whether a letter is a kind's.
@@ -85,7 +91,14 @@ impl Before {
     pub(crate) fn nothing() -> Before
         ensures { λ r. ⌜ r ≡ nothing ⌝ }
     {
-        Before { kind: None, number: 0, participants: 0, resources: 0, participant: None, resource: None }
+        Before {
+            kind: None,
+            number: 0,
+            participants: 0,
+            resources: 0,
+            participant: None,
+            resource: None,
+        }
     }
 
     /// The first fault of block `k`.
@@ -105,7 +118,11 @@ impl Before {
         if !self.is_rising(block) {
             return Err(Fault::Rising { block: k });
         }
-        if is_owned(block, self.participants) { Ok(()) } else { Err(Fault::Owners { block: k }) }
+        if is_owned(block, self.participants) {
+            Ok(())
+        } else {
+            Err(Fault::Owners { block: k })
+        }
     }
 
     /// Where the first faulty field starts: an R block also has to bear the number of the block before it.

@@ -35,55 +35,89 @@ pub struct Entry {
     pub limits: Limits,
 }
 
+/// A participant's or a Resource's number.
 const NUMBER: Limits = Limits::Whole { least: 1, most: 999_999 };
+/// What a participant is charged by.
 const QUANTITY: Limits = Limits::Whole { least: 0, most: 10_000_000 };
+/// A No-Load Fee, in cents an hour.
+const NO_LOAD_FEE: Limits = Limits::Whole { least: 0, most: 10_000_000 };
+/// A Resource's energy in an hour.
 const KWH: Limits = Limits::Whole { least: 0, most: 2_000_000 };
+/// A price or an LMP, in cents per MWh.
 const PRICE: Limits = Limits::Signed { most: 200_000 };
 
 static DAY: [Entry; 6] = [
     Entry { start: 1, stride: 1, count: 3, width: 1, limits: Limits::Unnamed },
+    // date
     Entry { start: 4, stride: 4, count: 1, width: 4, limits: Limits::Whole { least: 1, most: 60_000 } },
+    // version
     Entry { start: 8, stride: 2, count: 1, width: 2, limits: Limits::Whole { least: 1, most: 999 } },
+    // count of participants
     Entry { start: 10, stride: 1, count: 1, width: 1, limits: Limits::Whole { least: 1, most: 48 } },
+    // count of Resources
     Entry { start: 11, stride: 1, count: 1, width: 1, limits: Limits::Whole { least: 0, most: 24 } },
     Entry { start: 12, stride: 1, count: 496, width: 1, limits: Limits::Unnamed },
 ];
 
 static PARTICIPANT: [Entry; 6] = [
     Entry { start: 1, stride: 1, count: 3, width: 1, limits: Limits::Unnamed },
+    // participant
     Entry { start: 4, stride: 4, count: 1, width: 4, limits: NUMBER },
+    // for each region: day-ahead load, real-time load, deviation
     Entry { start: 8, stride: 4, count: 24, width: 4, limits: QUANTITY },
+    // network load
     Entry { start: 104, stride: 4, count: 1, width: 4, limits: QUANTITY },
+    // SCR weight
     Entry { start: 108, stride: 4, count: 1, width: 4, limits: QUANTITY },
     Entry { start: 112, stride: 1, count: 396, width: 1, limits: Limits::Unnamed },
 ];
 
 static RESOURCE: [Entry; 15] = [
+    // region
     Entry { start: 1, stride: 1, count: 1, width: 1, limits: Limits::Whole { least: 1, most: 8 } },
+    // Minimum Run Time
     Entry { start: 2, stride: 1, count: 1, width: 1, limits: Limits::Whole { least: 0, most: 24 } },
+    // minimum down time
     Entry { start: 3, stride: 1, count: 1, width: 1, limits: Limits::Whole { least: 0, most: 24 } },
+    // Resource
     Entry { start: 4, stride: 4, count: 1, width: 4, limits: NUMBER },
+    // Start-Up Fee
     Entry { start: 8, stride: 4, count: 1, width: 4, limits: Limits::Whole { least: 0, most: 100_000_000 } },
-    Entry { start: 12, stride: 4, count: 1, width: 4, limits: QUANTITY },
+    // No-Load Fee
+    Entry { start: 12, stride: 4, count: 1, width: 4, limits: NO_LOAD_FEE },
+    // prices
     Entry { start: 16, stride: 4, count: 24, width: 4, limits: PRICE },
+    // hours on line at midnight
     Entry { start: 112, stride: 1, count: 1, width: 1, limits: Limits::Whole { least: 0, most: 255 } },
+    // count of owners
     Entry { start: 113, stride: 1, count: 1, width: 1, limits: Limits::Whole { least: 1, most: 8 } },
     Entry { start: 114, stride: 1, count: 2, width: 1, limits: Limits::Unnamed },
+    // Self-Scheduled hours
     Entry { start: 116, stride: 4, count: 1, width: 4, limits: Limits::Whole { least: 0, most: 16_777_215 } },
+    // cleared kWh
     Entry { start: 168, stride: 4, count: 24, width: 4, limits: KWH },
+    // day-ahead LMPs
     Entry { start: 264, stride: 4, count: 24, width: 4, limits: PRICE },
+    // day-ahead flags
     Entry { start: 360, stride: 1, count: 24, width: 1, limits: Limits::Whole { least: 0, most: 2 } },
     Entry { start: 384, stride: 1, count: 124, width: 1, limits: Limits::Unnamed },
 ];
 
 static REAL_TIME: [Entry; 9] = [
     Entry { start: 1, stride: 1, count: 3, width: 1, limits: Limits::Unnamed },
+    // Resource
     Entry { start: 4, stride: 4, count: 1, width: 4, limits: NUMBER },
+    // Economic Minimum
     Entry { start: 8, stride: 4, count: 1, width: 4, limits: KWH },
+    // Desired Dispatch Point
     Entry { start: 12, stride: 12, count: 24, width: 4, limits: KWH },
+    // metered kWh
     Entry { start: 16, stride: 12, count: 24, width: 4, limits: KWH },
+    // real-time LMP
     Entry { start: 20, stride: 12, count: 24, width: 4, limits: PRICE },
+    // events
     Entry { start: 300, stride: 1, count: 24, width: 1, limits: Limits::Whole { least: 0, most: 5 } },
+    // real-time flags
     Entry { start: 324, stride: 1, count: 24, width: 1, limits: Limits::Whole { least: 0, most: 3 } },
     Entry { start: 348, stride: 1, count: 160, width: 1, limits: Limits::Unnamed },
 ];

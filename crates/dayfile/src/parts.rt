@@ -114,10 +114,15 @@ impl Event {
 
 pub(crate) impl Part for u32 as WordPart {
     ghost width = { 4 };
+
     ghost bytes = { word-bytes };
+
     ghost from = { word-from };
+
     ghost long = { word-long };
+
     ghost few = { four };
+
     ghost fits = { λ n. n < 2 ^ 32 };
 
     fn width() -> usize {
@@ -135,10 +140,15 @@ pub(crate) impl Part for u32 as WordPart {
 
 pub(crate) impl Part for i32 as SignedPart {
     ghost width = { 4 };
+
     ghost bytes = { signed-bytes };
+
     ghost from = { signed-from };
+
     ghost long = { signed-long };
+
     ghost few = { four };
+
     ghost fits = { SFits w32 };
 
     fn width() -> usize {
@@ -156,10 +166,15 @@ pub(crate) impl Part for i32 as SignedPart {
 
 pub(crate) impl Part for Flag as FlagPart {
     ghost width = { 1 };
+
     ghost bytes = { flag-bytes };
+
     ghost from = { flag-from };
+
     ghost long = { flag-long };
+
     ghost few = { one };
+
     ghost fits = { λ _. Unit {0} };
 
     fn width() -> usize {
@@ -177,10 +192,15 @@ pub(crate) impl Part for Flag as FlagPart {
 
 pub(crate) impl Part for Event as EventPart {
     ghost width = { 1 };
+
     ghost bytes = { event-bytes };
+
     ghost from = { event-from };
+
     ghost long = { event-long };
+
     ghost few = { one };
+
     ghost fits = { λ _. Unit {0} };
 
     fn width() -> usize {
@@ -198,10 +218,15 @@ pub(crate) impl Part for Event as EventPart {
 
 pub(crate) impl Part for Load as LoadPart {
     ghost width = { 12 };
+
     ghost bytes = { load-bytes };
+
     ghost from = { load-from };
+
     ghost long = { load-long };
+
     ghost few = { twelve };
+
     ghost fits = { Load-fits };
 
     fn width() -> usize {
@@ -225,10 +250,15 @@ pub(crate) impl Part for Load as LoadPart {
 
 pub(crate) impl Part for Owner as OwnerPart {
     ghost width = { 6 };
+
     ghost bytes = { owner-bytes };
+
     ghost from = { owner-from };
+
     ghost long = { owner-long };
+
     ghost few = { six };
+
     ghost fits = { Owner-fits };
 
     fn width() -> usize {
@@ -236,7 +266,10 @@ pub(crate) impl Part for Owner as OwnerPart {
     }
 
     fn read(block: &[u8], at: usize) -> Owner {
-        Owner { place: half_at(block, at), parts: word_at(block, at + 2) }
+        Owner {
+            place: half_at(block, at),
+            parts: word_at(block, at + 2),
+        }
     }
 
     fn write(&self, block: &mut [u8], at: usize) {
@@ -247,10 +280,15 @@ pub(crate) impl Part for Owner as OwnerPart {
 
 pub(crate) impl Part for RealTimeHour as HourPart {
     ghost width = { 12 };
+
     ghost bytes = { hour-bytes };
+
     ghost from = { hour-from };
+
     ghost long = { hour-long };
+
     ghost few = { twelve };
+
     ghost fits = { Hour-fits };
 
     fn width() -> usize {

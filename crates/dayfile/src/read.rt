@@ -73,13 +73,29 @@ impl Block<'_> {
     {
         match *self {
             Block::Day { head } => Record::Day(read_day(head)),
-            Block::Participant { number, loads, weights } => Record::Participant(ParticipantRecord {
+            Block::Participant {
+                number,
+                loads,
+                weights,
+            } => Record::Participant(ParticipantRecord {
                 number: word_at(number, 0),
                 loads: read_loads(loads),
                 network_load: word_at(weights, 0),
                 scr_weight: word_at(weights, 4),
             }),
-            Block::Resource { region, minimum_run_hours, minimum_down_hours, number, fees, prices, status, owners, cleared, lmps, flags } => {
+            Block::Resource {
+                region,
+                minimum_run_hours,
+                minimum_down_hours,
+                number,
+                fees,
+                prices,
+                status,
+                owners,
+                cleared,
+                lmps,
+                flags,
+            } => {
                 Record::Resource(ResourceRecord {
                     region,
                     minimum_run_hours,
@@ -97,7 +113,13 @@ impl Block<'_> {
                     flags: read_flags(flags),
                 })
             }
-            Block::RealTime { number, minimum, hours, events, flags } => Record::RealTime(RealTimeRecord {
+            Block::RealTime {
+                number,
+                minimum,
+                hours,
+                events,
+                flags,
+            } => Record::RealTime(RealTimeRecord {
                 number: word_at(number, 0),
                 economic_minimum_kwh: word_at(minimum, 0),
                 hours: read_hours(hours),
@@ -155,7 +177,11 @@ fn read_events(part: &[u8]) -> [Event; 24]
 fn read_loads(part: &[u8]) -> [Load; 8]
     ensures { λ r. ⌜ r ≡ each load-from 12 8 (now (part .entry)) ⌝ }
 {
-    let mut loads = [Load { day_ahead: 0, real_time: 0, deviation: 0 }; 8];
+    let mut loads = [Load {
+        day_ahead: 0,
+        real_time: 0,
+        deviation: 0,
+    }; 8];
     read_parts(part, 0, &mut loads);
     loads
 }
@@ -171,7 +197,11 @@ pub(crate) fn read_owners(part: &[u8]) -> [Owner; 8]
 fn read_hours(part: &[u8]) -> [RealTimeHour; 24]
     ensures { λ r. ⌜ r ≡ each hour-from 12 24 (now (part .entry)) ⌝ }
 {
-    let mut hours = [RealTimeHour { dispatch_kwh: 0, metered_kwh: 0, lmp: 0 }; 24];
+    let mut hours = [RealTimeHour {
+        dispatch_kwh: 0,
+        metered_kwh: 0,
+        lmp: 0,
+    }; 24];
     read_parts(part, 0, &mut hours);
     hours
 }

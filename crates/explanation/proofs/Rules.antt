@@ -71,15 +71,16 @@ module _ (os : List Owner) (j : ℕ) (h : j < length os) where
   unused-more i p q =
       unused-step i
       ∙ cond-true (eqb (owner .place) 0 && eqb (owner .parts) 0) (unused-rule (i + 1) rest) (Some (Unused i (owner .place) (owner .parts)))
-          (and-from (eqb (owner .place) 0) (eqb (owner .parts) 0) (eq-eqb (owner .place) 0 p) (eq-eqb (owner .parts) 0 q))
+      (and-from (eqb (owner .place) 0) (eqb (owner .parts) 0) (eq-eqb (owner .place) 0 p) (eq-eqb (owner .parts) 0 q))
 
   pub unused-not : (i : ℕ) → (owner .place ≡ 0 → ⊥) ⊎ (owner .parts ≡ 0 → ⊥) → unused-rule i (drop j os) ≡ Some (Unused i (owner .place) (owner .parts))
   unused-not i s =
       unused-step i
       ∙ cond-false (eqb (owner .place) 0 && eqb (owner .parts) 0) (unused-rule (i + 1) rest) (Some (Unused i (owner .place) (owner .parts)))
-          (elim s
-            [ inl p ↦ and-left (eqb (owner .place) 0) (eqb (owner .parts) 0) (ne-eqb (owner .place) 0 p)
-            | inr q ↦ and-right (eqb (owner .place) 0) (eqb (owner .parts) 0) (ne-eqb (owner .parts) 0 q) ])
+      (elim s [
+        | inl p ↦ and-left (eqb (owner .place) 0) (eqb (owner .parts) 0) (ne-eqb (owner .place) 0 p)
+        | inr q ↦ and-right (eqb (owner .place) 0) (eqb (owner .parts) 0) (ne-eqb (owner .parts) 0 q)
+      ])
 
   pub parts-more : parts-of (drop j os) ≡ owner .parts + parts-of rest
   unfolding parts-of

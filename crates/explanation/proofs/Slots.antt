@@ -17,12 +17,12 @@ same-owner p p′ q q′ e f = ap (λ (x : ℕ). record { place = x; parts = q }
 pub owner-there : (at : ℕ) (b : List ℕ) (p q : ℕ) → p ≡ value at 2 b → q ≡ value (at + 2) 4 b → _≡_ {A = Owner} (record { place = p; parts = q }) (owner-from (drop at b))
 owner-there at b p q e f =
     same-owner p (value 0 2 (drop at b)) q (value 2 4 (drop at b))
-      (e ∙ sym (value-drop at 0 2 b ∙ ap (λ k. value k 2 b) (add-zero at))) (f ∙ sym (value-drop at 2 4 b))
+    (e ∙ sym (value-drop at 0 2 b ∙ ap (λ k. value k 2 b) (add-zero at))) (f ∙ sym (value-drop at 2 4 b))
 
 front : (n : ℕ) (bs : List ℕ) → 6 ≤ n → owner-from (take n bs) ≡ owner-from bs
 front n bs h =
     same-owner (value 0 2 (take n bs)) (value 0 2 bs) (value 2 4 (take n bs)) (value 2 4 bs)
-      (value-take n 0 2 bs (omega arith)) (value-take n 2 4 bs (omega arith))
+    (value-take n 0 2 bs (omega arith)) (value-take n 2 4 bs (omega arith))
 
 -- slots are read alike in their part of the block and in the whole
 whole : (n : ℕ) (bs : List ℕ) → each owner-from 6 n (take (6 * n) bs) ≡ each owner-from 6 n bs

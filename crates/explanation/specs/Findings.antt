@@ -32,24 +32,25 @@ check-finding b = Sums (value 508 4 b) (weighed 0 (take 508 b))
 -- what a field at byte p holds, and what it may hold
 abbrev pub told : Row → ℕ → List ℕ → Finding
 told r p b =
-    elim (r .content)
-      [ No-field ↦ Unnamed p (value p (r .width) b)
+    elim (r .content) [
+      | No-field ↦ Unnamed p (value p (r .width) b)
       | Whole name least most ↦ Limits (named r name p) (value p (r .width) b) least most
-      | Signed name most ↦ Price (named r name p) (toZ w32 (value p (r .width) b)) most ]
+      | Signed name most ↦ Price (named r name p) (toZ w32 (value p (r .width) b)) most
+    ]
 
 -- the field of a block that starts at byte p: R also has to bear the number of the block before it
 abbrev pub field-finding : ℕ → ℕ → List ℕ → Finding
 field-finding before p b =
     cond (eqb (getD b 0 0) 82 && (eqb p 4 && not (eqb (value 4 4 b) before)))
-      (NumberOfResource (value 4 4 b) before)
-      (elim (row-at (rows-for (getD b 0 0)) p) [ Some r ↦ told r p b | None ↦ Other ])
+    (NumberOfResource (value 4 4 b) before)
+    (elim (row-at (rows-for (getD b 0 0)) p) [ Some r ↦ told r p b | None ↦ Other ])
 
 -- the participant or Resource of block k, and the last one before it
 abbrev pub rising-finding : ℕ → List ℕ → Finding
 rising-finding k f =
     cond (eqb (kind f k) 80)
-      (Last Participant (number-in f k) (valueOr (latest 80 f k) 0))
-      (Last Resource (number-in f k) (valueOr (latest 71 f k) 0))
+    (Last Participant (number-in f k) (valueOr (latest 80 f k) 0))
+    (Last Resource (number-in f k) (valueOr (latest 71 f k) 0))
 
 -- the rule that the owners of a block break, so many participants having been read
 abbrev pub by-rule : Option OwnersRule → Finding

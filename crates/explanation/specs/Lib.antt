@@ -1,3 +1,4 @@
 pub mod Names
 pub mod Shares
 pub mod Findings
+pub mod Agreement

@@ -30,14 +30,22 @@ pub(crate) fn kind_at(file: &[u8], k: usize) -> u8
 pub(crate) fn kind_before(file: &[u8], k: usize) -> Option<u8>
     ensures { λ r. ⌜ r ≡ kind-before (now (file .entry)) k ⌝ }
 {
-    if k == 0 { None } else { Some(kind_at(file, k - 1)) }
+    if k == 0 {
+        None
+    } else {
+        Some(kind_at(file, k - 1))
+    }
 }
 
 /// The number in the block right before block `k`, or 0.
 pub(crate) fn number_before(file: &[u8], k: usize) -> u32
     ensures { λ r. ⌜ r ≡ number-before (now (file .entry)) k ⌝ }
 {
-    if k == 0 { 0 } else { word_at(block_at(file, k - 1), 4) }
+    if k == 0 {
+        0
+    } else {
+        word_at(block_at(file, k - 1), 4)
+    }
 }
 
 /// How many of the blocks before block `k` begin with a letter.

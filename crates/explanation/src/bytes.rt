@@ -25,7 +25,12 @@ pub(crate) fn word_at(bytes: &[u8], at: usize) -> u32
     requires { ⌜ at < 2 ^ 16 ⌝ }
     ensures { λ r. ⌜ r ≡ value at 4 (now (bytes .entry)) ⌝ }
 {
-    u32::from_le_bytes([byte_at(bytes, at), byte_at(bytes, at + 1), byte_at(bytes, at + 2), byte_at(bytes, at + 3)])
+    u32::from_le_bytes([
+        byte_at(bytes, at),
+        byte_at(bytes, at + 1),
+        byte_at(bytes, at + 2),
+        byte_at(bytes, at + 3),
+    ])
 }
 
 /// The number in one, two or four bytes, the lowest byte first.

@@ -16,5 +16,6 @@ pub use finding::Finding;
 pub use finding::NamedField;
 pub use finding::OwnersRule;
 pub use reason::explain;
+pub use reason::limits_are_those_judged_by;
 pub use words::FindingDisplay;
 pub use words::layer_name;

@@ -19,7 +19,9 @@ pub(crate) fn broken_rule(owners: &[Owner], count: usize, limit: usize) -> Optio
     ensures { λ r. ⌜ r ≡ owners-rule limit count (now (owners .entry)) ⌝ }
 {
     let (used, rest) = owners.split_at(count.min(owners.len()));
-    broken_by_one(used, limit).or(broken_by_sum(used)).or(broken_by_unused(rest, count))
+    broken_by_one(used, limit)
+        .or(broken_by_sum(used))
+        .or(broken_by_unused(rest, count))
 }
 
 /// The first used slot that breaks a rule.
@@ -32,10 +34,18 @@ fn broken_by_one(owners: &[Owner], limit: usize) -> Option<OwnersRule>
     for owner in owners {
         let place = owner.place;
         if (place as usize) < least {
-            return Some(OwnersRule::Rising { slot, place, last: least - 1 });
+            return Some(OwnersRule::Rising {
+                slot,
+                place,
+                last: least - 1,
+            });
         }
         if place as usize >= limit {
-            return Some(OwnersRule::Below { slot, place, participants: limit });
+            return Some(OwnersRule::Below {
+                slot,
+                place,
+                participants: limit,
+            });
         }
         if owner.parts == 0 {
             return Some(OwnersRule::Parts { slot });
@@ -55,7 +65,11 @@ fn broken_by_sum(owners: &[Owner]) -> Option<OwnersRule>
     for owner in owners {
         parts += owner.parts as u64;
     }
-    if parts == WHOLE { None } else { Some(OwnersRule::Sum { parts }) }
+    if parts == WHOLE {
+        None
+    } else {
+        Some(OwnersRule::Sum { parts })
+    }
 }
 
 /// The first slot behind the used ones that is not 0.
@@ -66,7 +80,11 @@ fn broken_by_unused(slots: &[Owner], used: usize) -> Option<OwnersRule>
     let mut slot = used + 1;
     for owner in slots {
         if owner.place != 0 || owner.parts != 0 {
-            return Some(OwnersRule::Unused { slot, place: owner.place, parts: owner.parts });
+            return Some(OwnersRule::Unused {
+                slot,
+                place: owner.place,
+                parts: owner.parts,
+            });
         }
         slot += 1;
     }
@@ -94,5 +112,8 @@ fn owner_at(block: &[u8], at: usize) -> Owner
     requires { ⌜ at < 512 ⌝ }
     ensures { λ r. ⌜ r ≡ owner-from (drop at (now (block .entry))) ⌝ }
 {
-    Owner { place: half_at(block, at), parts: word_at(block, at + 2) }
+    Owner {
+        place: half_at(block, at),
+        parts: word_at(block, at + 2),
+    }
 }

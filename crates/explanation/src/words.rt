@@ -14,21 +14,44 @@ pub impl fmt::Display for Finding as FindingDisplay {
         match *self {
             Finding::Length { bytes } => write_length(bytes, f),
             Finding::Check { stated, computed } => {
-                write!(f, "the check (bytes 508 to 511) is {stated}; it must be {computed}, the sum over the bytes before it")
+                write!(
+                    f,
+                    "the check (bytes 508 to 511) is {stated}; it must be {computed}, the sum over the bytes before it"
+                )
             }
             Finding::Kind { found, before } => write_kind(found, before, f),
-            Finding::Field { field, found, least, most } => write!(f, "{field} is {found}; it must be from {least} to {most}"),
-            Finding::Price { field, found, most } => write!(f, "{field} is {found}; it must be from -{most} to {most}"),
-            Finding::Unnamed { byte, found } => write!(f, "byte {byte}, which no field has, is {found}; it must be 0"),
+            Finding::Field {
+                field,
+                found,
+                least,
+                most,
+            } => write!(f, "{field} is {found}; it must be from {least} to {most}"),
+            Finding::Price { field, found, most } => write!(
+                f,
+                "{field} is {found}; it must be from -{most} to {most}"
+            ),
+            Finding::Unnamed { byte, found } => write!(
+                f,
+                "byte {byte}, which no field has, is {found}; it must be 0"
+            ),
             Finding::NumberOfResource { found, expected } => {
-                write!(f, "the Resource (bytes 4 to 7) is {found}; it must be {expected}, as in the block before it")
+                write!(
+                    f,
+                    "the Resource (bytes 4 to 7) is {found}; it must be {expected}, as in the block before it"
+                )
             }
             Finding::Rising { name, found, last } => {
                 let name = name.words();
-                write!(f, "the {name} (bytes 4 to 7) is {found}; it must be above {last}, the last one before it")
+                write!(
+                    f,
+                    "the {name} (bytes 4 to 7) is {found}; it must be above {last}, the last one before it"
+                )
             }
             Finding::Owners(rule) => write!(f, "{rule}"),
-            Finding::Counts { participants, resources } => write_counts(participants, resources, f),
+            Finding::Counts {
+                participants,
+                resources,
+            } => write_counts(participants, resources, f),
             Finding::Other => write!(f, "the bytes of the file do not show what is wrong"),
         }
     }
@@ -36,20 +59,36 @@ pub impl fmt::Display for Finding as FindingDisplay {
 
 fn write_length<W: fmt::Write>(bytes: usize, f: &mut fmt::Formatter<W>) -> fmt::Result {
     if bytes > LONGEST {
-        write!(f, "the file has more than {LONGEST} bytes; it must have from 512 to {LONGEST}, a multiple of 512")
+        write!(
+            f,
+            "the file has more than {LONGEST} bytes; it must have from 512 to {LONGEST}, a multiple of 512"
+        )
     } else {
-        write!(f, "the file has {bytes} bytes; it must have from 512 to {LONGEST}, a multiple of 512")
+        write!(
+            f,
+            "the file has {bytes} bytes; it must have from 512 to {LONGEST}, a multiple of 512"
+        )
     }
 }
 
-fn write_kind<W: fmt::Write>(found: u8, before: Option<u8>, f: &mut fmt::Formatter<W>) -> fmt::Result {
+fn write_kind<W: fmt::Write>(
+    found: u8,
+    before: Option<u8>,
+    f: &mut fmt::Formatter<W>,
+) -> fmt::Result {
     let found = Letter(found);
     match before {
-        None => write!(f, "the kind (byte 0) of the first block is {found}; it must be D"),
+        None => write!(
+            f,
+            "the kind (byte 0) of the first block is {found}; it must be D"
+        ),
         Some(before) => {
             let allowed = allowed_behind(before);
             let before = Letter(before);
-            write!(f, "the kind (byte 0) is {found}; right behind {before} it must be {allowed}")
+            write!(
+                f,
+                "the kind (byte 0) is {found}; right behind {before} it must be {allowed}"
+            )
         }
     }
 }
@@ -63,10 +102,17 @@ fn allowed_behind(before: u8) -> &'static str {
     }
 }
 
-fn write_counts<W: fmt::Write>(participants: Count, resources: Count, f: &mut fmt::Formatter<W>) -> fmt::Result {
+fn write_counts<W: fmt::Write>(
+    participants: Count,
+    resources: Count,
+    f: &mut fmt::Formatter<W>,
+) -> fmt::Result {
     let Count { said: p, read: m } = participants;
     let Count { said: g, read: n } = resources;
-    write!(f, "the counts of participants and Resources (bytes 10 and 11) are {p} and {g}; they must be {m} and {n}, as many as the file has")
+    write!(
+        f,
+        "the counts of participants and Resources (bytes 10 and 11) are {p} and {g}; they must be {m} and {n}, as many as the file has"
+    )
 }
 
 /// The first byte of a block, as a letter where it is one.
@@ -90,15 +136,34 @@ impl fmt::Display for OwnersRule as OwnersRuleDisplay {
     fn fmt<W: fmt::Write>(&self, f: &mut fmt::Formatter<W>) -> fmt::Result {
         match *self {
             OwnersRule::Rising { slot, place, last } => {
-                write!(f, "the place of owner {slot} is {place}; it must be above {last}, the place of the owner before")
+                write!(
+                    f,
+                    "the place of owner {slot} is {place}; it must be above {last}, the place of the owner before"
+                )
             }
-            OwnersRule::Below { slot, place, participants } => {
-                write!(f, "the place of owner {slot} is {place}; it must be below {participants}, the count of participants read")
+            OwnersRule::Below {
+                slot,
+                place,
+                participants,
+            } => {
+                write!(
+                    f,
+                    "the place of owner {slot} is {place}; it must be below {participants}, the count of participants read"
+                )
             }
-            OwnersRule::Parts { slot } => write!(f, "the parts of owner {slot} are 0; they must be above 0"),
-            OwnersRule::Sum { parts } => write!(f, "the parts of all owners add up to {parts}; they must add up to 1000000"),
+            OwnersRule::Parts { slot } => write!(
+                f,
+                "the parts of owner {slot} are 0; they must be above 0"
+            ),
+            OwnersRule::Sum { parts } => write!(
+                f,
+                "the parts of all owners add up to {parts}; they must add up to 1000000"
+            ),
             OwnersRule::Unused { slot, place, parts } => {
-                write!(f, "slot {slot} is behind the last owner and has place {place} and parts {parts}; both must be 0")
+                write!(
+                    f,
+                    "slot {slot} is behind the last owner and has place {place} and parts {parts}; both must be 0"
+                )
             }
         }
     }
@@ -116,7 +181,11 @@ impl fmt::Display for NamedField as NamedFieldDisplay {
     }
 }
 
-fn write_bytes<W: fmt::Write>(first: usize, width: usize, f: &mut fmt::Formatter<W>) -> fmt::Result {
+fn write_bytes<W: fmt::Write>(
+    first: usize,
+    width: usize,
+    f: &mut fmt::Formatter<W>,
+) -> fmt::Result {
     if width > 1 {
         let last = first.saturating_add(width - 1);
         write!(f, " (bytes {first} to {last})")
@@ -164,7 +233,9 @@ impl FieldName {
     /// What its rank counts, if it stands more than once.
     fn series(self) -> Option<&'static str> {
         match self {
-            FieldName::DayAheadLoad | FieldName::RealTimeLoad | FieldName::Deviation => Some("region"),
+            FieldName::DayAheadLoad | FieldName::RealTimeLoad | FieldName::Deviation => Some(
+                "region",
+            ),
             FieldName::Price
             | FieldName::ClearedKwh
             | FieldName::DayAheadLmp

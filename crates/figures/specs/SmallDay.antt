@@ -46,11 +46,22 @@ small-participant number one two =
 -- Resource 7 of region 1, owned 600000 and 400000 by places 0 and 1, with cleared hours 10 and 11
 abbrev pub small-resource : ResourceRecord
 small-resource =
-    record
-      { region = 1; «minimum_run_hours» = 0; «minimum_down_hours» = 0; number = 7; «start_up_cents» = 10000; «no_load_cents» = 1000
-      ; prices = ten-and-eleven (pos 4000) (pos 4000) (pos 0); «hours_on_line» = 0; «owner_count» = 2; «self_scheduled» = 0
-      ; owners = owner 0 600000 ∷ owner 1 400000 ∷ replicate 6 (owner 0 0)
-      ; «cleared_kwh» = ten-and-eleven 100000 50000 0; lmps = ten-and-eleven (pos 3500) (pos 3500) (pos 0); flags = ten-and-eleven Economic Lscpr Economic }
+    record {
+      region = 1;
+      «minimum_run_hours» = 0;
+      «minimum_down_hours» = 0;
+      number = 7;
+      «start_up_cents» = 10000;
+      «no_load_cents» = 1000;
+      prices = ten-and-eleven (pos 4000) (pos 4000) (pos 0);
+      «hours_on_line» = 0;
+      «owner_count» = 2;
+      «self_scheduled» = 0;
+      owners = owner 0 600000 ∷ owner 1 400000 ∷ replicate 6 (owner 0 0);
+      «cleared_kwh» = ten-and-eleven 100000 50000 0;
+      lmps = ten-and-eleven (pos 3500) (pos 3500) (pos 0);
+      flags = ten-and-eleven Economic Lscpr Economic;
+    }
 
 abbrev pub small-day : List Record
 small-day =
@@ -65,14 +76,29 @@ some-participant =
 
 abbrev pub some-resource : ResourceRecord
 some-resource =
-    record
-      { region = 3; «minimum_run_hours» = 4; «minimum_down_hours» = 5; number = 6; «start_up_cents» = 7; «no_load_cents» = 8
-      ; prices = first-and-last (negsuc 8) (pos 10) (pos 0); «hours_on_line» = 11; «owner_count» = 2; «self_scheduled» = 12
-      ; owners = owner 2 600000 ∷ owner 3 400000 ∷ replicate 6 (owner 0 0)
-      ; «cleared_kwh» = first-and-last 13 14 0; lmps = first-and-last (pos 15) (negsuc 15) (pos 0); flags = first-and-last Var Lscpr Economic }
+    record {
+      region = 3;
+      «minimum_run_hours» = 4;
+      «minimum_down_hours» = 5;
+      number = 6;
+      «start_up_cents» = 7;
+      «no_load_cents» = 8;
+      prices = first-and-last (negsuc 8) (pos 10) (pos 0);
+      «hours_on_line» = 11;
+      «owner_count» = 2;
+      «self_scheduled» = 12;
+      owners = owner 2 600000 ∷ owner 3 400000 ∷ replicate 6 (owner 0 0);
+      «cleared_kwh» = first-and-last 13 14 0;
+      lmps = first-and-last (pos 15) (negsuc 15) (pos 0);
+      flags = first-and-last Var Lscpr Economic;
+    }
 
 abbrev pub some-real-time : RealTimeRecord
 some-real-time =
-    record
-      { number = 7; «economic_minimum_kwh» = 8; hours = first-and-last (hour 9 10 (negsuc 10)) (hour 12 13 (pos 14)) (hour 0 0 (pos 0))
-      ; events = first-and-last Trip OwnRestart Off; flags = first-and-last Scr Var Economic }
+    record {
+      number = 7;
+      «economic_minimum_kwh» = 8;
+      hours = first-and-last (hour 9 10 (negsuc 10)) (hour 12 13 (pos 14)) (hour 0 0 (pos 0));
+      events = first-and-last Trip OwnRestart Off;
+      flags = first-and-last Scr Var Economic;
+    }

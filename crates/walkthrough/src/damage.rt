@@ -17,8 +17,15 @@ pub enum Damage {
 }
 
 /// All of them, in the order of the refusals.
-pub const DAMAGES: [Damage; 7] =
-    [Damage::Length, Damage::Check, Damage::Order, Damage::Field, Damage::Number, Damage::Owners, Damage::Counts];
+pub const DAMAGES: [Damage; 7] = [
+    Damage::Length,
+    Damage::Check,
+    Damage::Order,
+    Damage::Field,
+    Damage::Number,
+    Damage::Owners,
+    Damage::Counts,
+];
 
 impl Damage {
     /// The name of an example with this damage.

@@ -18,7 +18,12 @@ pub const BYTES: usize = 2560;
 /// The small day, record by record.
 pub fn small_day() -> [Record; RECORDS] {
     [
-        Record::Day(DayRecord { date: 20_000, version: 1, participants: 3, resources: 1 }),
+        Record::Day(DayRecord {
+            date: 20_000,
+            version: 1,
+            participants: 3,
+            resources: 1,
+        }),
         participant(101, 0, 1_000),
         participant(102, 1_000, 0),
         participant(103, 500, 500),
@@ -31,18 +36,33 @@ fn participant(number: u32, first: u32, second: u32) -> Record {
     let mut loads = [load(0); 8];
     loads[0] = load(first);
     loads[1] = load(second);
-    Record::Participant(ParticipantRecord { number, loads, network_load: 0, scr_weight: 0 })
+    Record::Participant(ParticipantRecord {
+        number,
+        loads,
+        network_load: 0,
+        scr_weight: 0,
+    })
 }
 
 fn load(day_ahead: u32) -> Load {
-    Load { day_ahead, real_time: 0, deviation: 0 }
+    Load {
+        day_ahead,
+        real_time: 0,
+        deviation: 0,
+    }
 }
 
 /// A Resource that clears in hours 10 and 11, and belongs to the first two participants.
 fn resource() -> Record {
     let mut owners = [Owner { place: 0, parts: 0 }; 8];
-    owners[0] = Owner { place: 0, parts: 600_000 };
-    owners[1] = Owner { place: 1, parts: 400_000 };
+    owners[0] = Owner {
+        place: 0,
+        parts: 600_000,
+    };
+    owners[1] = Owner {
+        place: 1,
+        parts: 400_000,
+    };
     let mut flags = [Flag::Economic; 24];
     flags[10] = Flag::Lscpr;
     Record::Resource(ResourceRecord {

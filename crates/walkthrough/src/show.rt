@@ -25,20 +25,40 @@ pub fn print_record(rt: &impl Print, record: &Record) -> io::Result<()> {
 }
 
 fn print_day(rt: &impl Print, day: &DayRecord) -> io::Result<()> {
-    let DayRecord { date, version, participants, resources } = *day;
-    println!(rt, "   day {date}, version {version}; participants: {participants}, Resources: {resources}")
+    let DayRecord {
+        date,
+        version,
+        participants,
+        resources,
+    } = *day;
+    println!(
+        rt,
+        "   day {date}, version {version}; participants: {participants}, Resources: {resources}"
+    )
 }
 
 fn print_participant(rt: &impl Print, participant: &ParticipantRecord) -> io::Result<()> {
     let number = participant.number;
     let first = participant.loads[0].day_ahead;
     let second = participant.loads[1].day_ahead;
-    println!(rt, "   participant {number}; day-ahead load in region 1: {first}, in region 2: {second}")
+    println!(
+        rt,
+        "   participant {number}; day-ahead load in region 1: {first}, in region 2: {second}"
+    )
 }
 
 fn print_resource(rt: &impl Print, resource: &ResourceRecord) -> io::Result<()> {
-    let ResourceRecord { number, region, start_up_cents, no_load_cents, .. } = *resource;
-    println!(rt, "   Resource {number} in region {region}; Start-Up Fee: {start_up_cents} cents, No-Load Fee: {no_load_cents} cents")?;
+    let ResourceRecord {
+        number,
+        region,
+        start_up_cents,
+        no_load_cents,
+        ..
+    } = *resource;
+    println!(
+        rt,
+        "   Resource {number} in region {region}; Start-Up Fee: {start_up_cents} cents, No-Load Fee: {no_load_cents} cents"
+    )?;
     for owner in &resource.owners {
         print_owner(rt, owner)?;
     }
@@ -50,7 +70,14 @@ fn print_resource(rt: &impl Print, resource: &ResourceRecord) -> io::Result<()> 
 
 fn print_owner(rt: &impl Print, owner: &Owner) -> io::Result<()> {
     let Owner { place, parts } = *owner;
-    if parts > 0 { println!(rt, "      owner at place {place}: {parts} parts of a million") } else { Ok(()) }
+    if parts > 0 {
+        println!(
+            rt,
+            "      owner at place {place}: {parts} parts of a million"
+        )
+    } else {
+        Ok(())
+    }
 }
 
 /// Prints an hour, from 0, in which the Resource clears.
@@ -65,7 +92,10 @@ fn print_hour(rt: &impl Print, resource: &ResourceRecord, hour: usize) -> io::Re
     let price = resource.prices[hour];
     let lmp = resource.lmps[hour];
     let flag = resource.flags[hour].number();
-    println!(rt, "      hour {name}: {kwh} kWh at a price of {price} and an LMP of {lmp} cents per MWh, flag {flag}")
+    println!(
+        rt,
+        "      hour {name}: {kwh} kWh at a price of {price} and an LMP of {lmp} cents per MWh, flag {flag}"
+    )
 }
 
 /// Prints the parts of the file that a block shows.
@@ -73,19 +103,38 @@ pub fn print_block(rt: &impl Print, k: usize, block: &Block<'_>) -> io::Result<(
     match block {
         Block::Day { head } => {
             let head = head.len();
-            println!(rt, "   block {k} is D: {head} bytes of date, version and counts")
+            println!(
+                rt,
+                "   block {k} is D: {head} bytes of date, version and counts"
+            )
         }
-        Block::Participant { number, loads, weights } => {
+        Block::Participant {
+            number,
+            loads,
+            weights,
+        } => {
             let number = number.len();
             let loads = loads.len();
             let weights = weights.len();
-            println!(rt, "   block {k} is P: {number} bytes of its number, {loads} of loads, {weights} of network load and SCR weight")
+            println!(
+                rt,
+                "   block {k} is P: {number} bytes of its number, {loads} of loads, {weights} of network load and SCR weight"
+            )
         }
-        Block::Resource { region, prices, owners, cleared, .. } => {
+        Block::Resource {
+            region,
+            prices,
+            owners,
+            cleared,
+            ..
+        } => {
             let prices = prices.len();
             let owners = owners.len();
             let cleared = cleared.len();
-            println!(rt, "   block {k} is G: in region {region}, {prices} bytes of prices, {owners} of owners, {cleared} of cleared kWh, and more")
+            println!(
+                rt,
+                "   block {k} is G: in region {region}, {prices} bytes of prices, {owners} of owners, {cleared} of cleared kWh, and more"
+            )
         }
         Block::RealTime { hours, .. } => {
             let hours = hours.len();
@@ -99,8 +148,14 @@ pub fn print_refusal(rt: &impl Print, fault: Fault) -> io::Result<()> {
     let number = fault.number();
     let layer = layer_name(fault.layer());
     match fault.place() {
-        Place::Block { block } => println!(rt, "     refused {number}, layer {layer}, block {block}"),
-        Place::Field { block, byte } => println!(rt, "     refused {number}, layer {layer}, block {block}, byte {byte}"),
+        Place::Block { block } => println!(
+            rt,
+            "     refused {number}, layer {layer}, block {block}"
+        ),
+        Place::Field { block, byte } => println!(
+            rt,
+            "     refused {number}, layer {layer}, block {block}, byte {byte}"
+        ),
         _ => println!(rt, "     refused {number}, layer {layer}"),
     }
 }

@@ -43,7 +43,10 @@ fn write_file(rt: &LibcRuntime, records: &[Record; RECORDS]) -> Result<[u8; BYTE
     let mut file = [0; BYTES];
     write_records(records, &mut file)?;
     println!(rt, "")?;
-    println!(rt, "2. Each record is written as a block of {BLOCK} bytes, which begins with its kind and ends with its check.")?;
+    println!(
+        rt,
+        "2. Each record is written as a block of {BLOCK} bytes, which begins with its kind and ends with its check."
+    )?;
     for k in 0..RECORDS {
         show_ends(rt, k, &file[BLOCK * k..BLOCK * k + BLOCK])?;
     }
@@ -62,7 +65,10 @@ fn show_ends(rt: &LibcRuntime, k: usize, block: &[u8]) -> Result<(), Stop> {
 
 fn read_blocks(rt: &LibcRuntime, file: &[u8; BYTES]) -> Result<(), Stop> {
     println!(rt, "")?;
-    println!(rt, "3. Each block is read by itself, and shows its parts of the file.")?;
+    println!(
+        rt,
+        "3. Each block is read by itself, and shows its parts of the file."
+    )?;
     for k in 0..RECORDS {
         let mut block = [0; BLOCK];
         block.copy_from_slice(&file[BLOCK * k..BLOCK * k + BLOCK]);
@@ -80,18 +86,28 @@ fn follow_file(rt: &LibcRuntime, file: &[u8; BYTES]) -> Result<(), Stop> {
     write_back(rt, &day)
 }
 
-fn admit_file<'f>(rt: &LibcRuntime, file: &'f [u8; BYTES], day: &mut AdmittedDay<'f>) -> Result<(), Stop> {
+fn admit_file<'f>(
+    rt: &LibcRuntime,
+    file: &'f [u8; BYTES],
+    day: &mut AdmittedDay<'f>,
+) -> Result<(), Stop> {
     admit(file, day)?;
     let DayRecord { date, version, .. } = day.header();
     let blocks = day.blocks();
     println!(rt, "")?;
-    println!(rt, "4. The whole file is admitted: day {date}, version {version}, {blocks} blocks in order.")?;
+    println!(
+        rt,
+        "4. The whole file is admitted: day {date}, version {version}, {blocks} blocks in order."
+    )?;
     Ok(())
 }
 
 fn damage_file(rt: &LibcRuntime, file: &[u8; BYTES]) -> Result<(), Stop> {
     println!(rt, "")?;
-    println!(rt, "5. Damaged, the file is refused: the number, the layer, the place, and why.")?;
+    println!(
+        rt,
+        "5. Damaged, the file is refused: the number, the layer, the place, and why."
+    )?;
     for damage in DAMAGES {
         try_damage(rt, damage, file)?;
     }
@@ -121,7 +137,11 @@ fn write_back(rt: &LibcRuntime, day: &AdmittedDay<'_>) -> Result<(), Stop> {
     let mut out = [0; BYTES];
     write_day(day, &mut out)?;
     let written = &out[0..BYTES];
-    let same = if written == day.file() { "the bytes are those of the file" } else { "the bytes differ from the file" };
+    let same = if written == day.file() {
+        "the bytes are those of the file"
+    } else {
+        "the bytes differ from the file"
+    };
     println!(rt, "")?;
     println!(rt, "6. The admitted day is written back: {same}.")?;
     Ok(())

@@ -24,10 +24,11 @@ use Rattle.dayfile.proofs.admitted.write_day.Needs.{in-Some·in-Continue-write
 pub returns-then-out-day : need.returns-then-out-day
 returns-then-out-day c =
     let f = c .args .day .now .file .now in
-    record
-      { written-or-untouched = day-refused f (c .args .out .now) (c .if-out-day .taken)
-      ; file-again = refl
-      ; records-are-the-file = records-again f (c .args .day .now .bytes) (passed f (accepted-none f (c .args .day .now .kept))) }
+    record {
+      written-or-untouched = day-refused f (c .args .out .now) (c .if-out-day .taken);
+      file-again = refl;
+      records-are-the-file = records-again f (c .args .day .now .bytes) (passed f (accepted-none f (c .args .day .now .kept)));
+    }
 
 pub returns-in-Break-write-record : need.returns-in-Break-write-record
 returns-in-Break-write-record c =
@@ -35,7 +36,7 @@ returns-in-Break-write-record c =
     let p = passed f (accepted-none f (c .args .day .now .kept)) in
     let l : c .loop-k .k < blocks (c .args .day .now .file .now) = omega (arith, c .loop-k-test .taken, c .blocks-k-end .ensures) in
     let t = turned f (c .args .out .now) (c .loop-k .out) (c .write-record .last .out) (c .loop-k .k) (c .in-Some .record) (c .write-record .result) (c .args .day .now .bytes) p l
-        (c .if-out-day .left) (c .loop-k .inv) (c .in-Some .ensures tt) (c .write-record .ensures .written-or-untouched) in
+    (c .if-out-day .left) (c .loop-k .inv) (c .in-Some .ensures tt) (c .write-record .ensures .written-or-untouched) in
     let q = sym (t .fine) ∙ c .in-Break-write-record .was tt in
     let z : _≡_ {A = ℕ} 0 1 = cc in absurd (omega arith)
 
@@ -47,14 +48,15 @@ loop-k-again c =
     let f = c .args .day .now .file .now in
     let p = passed f (accepted-none f (c .args .day .now .kept)) in
     let l : c .loop-k .k < blocks (c .args .day .now .file .now) = omega (arith, c .loop-k-test .taken, c .blocks-k-end .ensures) in
-    elim (c .match-record .came)
-    [ in-Some·in-Continue-write-record w ↦ (
-        let t = turned f (c .args .out .now) (c .loop-k .out) (w .write-record .last .out) (c .loop-k .k) (w .in-Some .record) (w .write-record .result) (c .args .day .now .bytes) p l
-            (c .if-out-day .left) (c .loop-k .inv) (w .in-Some .ensures tt) (w .write-record .ensures .written-or-untouched) in
-        w .out-is ∙ t .front)
-    | in-rest w ↦ (
-        let q = sym (w .in-rest .is) ∙ c .record .ensures ∙ cond-true (ltb (c .loop-k .k) (blocks f)) (Some (record-of (block f (c .loop-k .k)))) None (lt-ltb (c .loop-k .k) (blocks f) l) in
-        let z : _≡_ {A = ℕ} 0 1 = cc in absurd (omega arith)) ]
+    elim (c .match-record .came) [
+      | in-Some·in-Continue-write-record w ↦ (
+          let t = turned f (c .args .out .now) (c .loop-k .out) (w .write-record .last .out) (c .loop-k .k) (w .in-Some .record) (w .write-record .result) (c .args .day .now .bytes) p l
+          (c .if-out-day .left) (c .loop-k .inv) (w .in-Some .ensures tt) (w .write-record .ensures .written-or-untouched) in
+          w .out-is ∙ t .front)
+      | in-rest w ↦ (
+          let q = sym (w .in-rest .is) ∙ c .record .ensures ∙ cond-true (ltb (c .loop-k .k) (blocks f)) (Some (record-of (block f (c .loop-k .k)))) None (lt-ltb (c .loop-k .k) (blocks f) l) in
+          let z : _≡_ {A = ℕ} 0 1 = cc in absurd (omega arith))
+    ]
 
 pub returns : need.returns
 returns c =
@@ -62,7 +64,8 @@ returns c =
     let p = passed f (accepted-none f (c .args .day .now .kept)) in
     let n : 512 * c .loop-k .k ≡ length (c .args .day .now .file .now) = omega (arith, p .whole, c .blocks-k-end .ensures) in
     let e = c .loop-k .inv ∙ ap (λ i. take i f ++ drop i (c .args .out .now)) n in
-    record
-      { written-or-untouched = day-written f (c .args .out .now) (c .loop-k .out) (c .args .day .now .bytes) p (c .if-out-day .left) e
-      ; file-again = e ∙ ap (λ x. x ++ drop (length f) (c .args .out .now)) (take-all (length f) f (omega arith))
-      ; records-are-the-file = records-again f (c .args .day .now .bytes) p }
+    record {
+      written-or-untouched = day-written f (c .args .out .now) (c .loop-k .out) (c .args .day .now .bytes) p (c .if-out-day .left) e;
+      file-again = e ∙ ap (λ x. x ++ drop (length f) (c .args .out .now)) (take-all (length f) f (omega arith));
+      records-are-the-file = records-again f (c .args .day .now .bytes) p;
+    }

@@ -20,10 +20,11 @@ read-requires g c κs =
     omega (arith, m)
 
 pub loop-i-again : need.loop-i-again
-loop-i-again g c =
-    ( each-set (g .T·Part .from) (g .T·Part .width) (c .args .block .now) (c .args .at) (c .loop-i .p) (c .loop-i .i) (c .loop-i .parts) (c .read .result)
-      (omega arith) (c .loop-i .inv .1) (c .read .ensures) (c .loop-i .inv .0)
-    , omega (arith, add-one-mul (c .loop-i .i) (g .T·Part .width)) )
+loop-i-again g c = (
+  each-set (g .T·Part .from) (g .T·Part .width) (c .args .block .now) (c .args .at) (c .loop-i .p) (c .loop-i .i) (c .loop-i .parts) (c .read .result)
+      (omega arith) (c .loop-i .inv .1) (c .read .ensures) (c .loop-i .inv .0),
+  omega (arith, add-one-mul (c .loop-i .i) (g .T·Part .width)),
+)
 
 pub returns : need.returns
 returns g c =

@@ -32,18 +32,20 @@ loop-part-again g c =
     let x = c .part-item .result in
     let rest = joined write (drop (j + 1) parts) in
     let h = part-within j (length parts) w (c .loop-part-test .taken) in
-    let m = laid-more write w (g .T·Part .long) xs p parts j x (c .loop-part-test .taken) (omega (arith, h)) in
-    ( ap (λ k. laid (c .write .last .block) (p + k) rest) (c .width-p .ensures)
-      ∙ ap (λ t. laid t (p + w) rest) (c .write .ensures .written)
-      ∙ ap (λ y. laid (laid xs p (write y)) (p + w) rest) (c .part-item .is)
-      ∙ sym m ∙ c .loop-part .inv .0
-    , omega (arith, add-one-mul j w)
-    , all-more (g .T·Part .fits) parts j x (c .loop-part-test .taken) (c .loop-part .inv .2) (subst (g .T·Part .fits) (c .part-item .is) (c .write .ensures .sound)) )
+    let m = laid-more write w (g .T·Part .long) xs p parts j x (c .loop-part-test .taken) (omega (arith, h)) in (
+      ap (λ k. laid (c .write .last .block) (p + k) rest) (c .width-p .ensures)
+          ∙ ap (λ t. laid t (p + w) rest) (c .write .ensures .written)
+          ∙ ap (λ y. laid (laid xs p (write y)) (p + w) rest) (c .part-item .is)
+          ∙ sym m ∙ c .loop-part .inv .0,
+      omega (arith, add-one-mul j w),
+      all-more (g .T·Part .fits) parts j x (c .loop-part-test .taken) (c .loop-part .inv .2) (subst (g .T·Part .fits) (c .part-item .is) (c .write .ensures .sound)),
+    )
 
 pub returns : need.returns
 returns g c =
-    record
-      { written =
+    record {
+      written =
           sym (laid-all (g .T·Part .bytes) (c .loop-part .block) (c .loop-part .p) (c .args .parts .now) (c .loop-part .part-index) (omega arith))
-          ∙ c .loop-part .inv .0
-      ; sound = subst (All (g .T·Part .fits)) (take-all (c .loop-part .part-index) (c .args .parts .now) (omega arith)) (c .loop-part .inv .2) }
+          ∙ c .loop-part .inv .0;
+      sound = subst (All (g .T·Part .fits)) (take-all (c .loop-part .part-index) (c .args .parts .now) (omega arith)) (c .loop-part .inv .2);
+    }

@@ -30,11 +30,12 @@ returns-in-Some c =
     let n = answer-ok (lone-fault b) (sym (c .judge-alone .ensures) ∙ c .in-Continue-judge-alone .was tt) in
     let s = c .in-Some .ensures tt .1 in
     let e = shown-is b (c .in-Some .parts) s in
-    record
-      { verdict = sym n
-      ; first-broken-rule-told = subst (Ruled-alone b) n (ruled-alone b l (c .fits-block))
-      ; shows-its-parts = (s, e)
-      ; encoded-again = ap encode e ∙ lone-again b l (c .fits-block) n }
+    record {
+      verdict = sym n;
+      first-broken-rule-told = subst (Ruled-alone b) n (ruled-alone b l (c .fits-block));
+      shows-its-parts = (s, e);
+      encoded-again = ap encode e ∙ lone-again b l (c .fits-block) n;
+    }
 
 pub returns-in-None : need.returns-in-None
 returns-in-None c =

@@ -41,19 +41,21 @@ loop-k-again c =
     let a = getD (c .loop-k .once) (c .loop-k .k) 0 in
     let inside : c .loop-k .k < length (c .loop-k .once) = omega arith in
     let inside-often : c .loop-k .k < length (c .loop-k .often) = omega arith in
-    let same = c .loop-k .inv .2 (c .loop-k .k) (omega arith) in
-    ( length-set once k (a + b) ∙ c .loop-k .inv .0
-    , length-set often k (getD often k 0 + a) ∙ c .loop-k .inv .1
-    , (λ j h. let ne : j ≢ c .loop-k .k = omega arith in getD-set-other once k j (a + b) 0 ne ∙ c .loop-k .inv .2 j (omega arith))
-    , omega (arith, sum-add once k b inside, sumBy-more (λ x. x) row k 0 (c .loop-k-test .taken), c .loop-k .inv .3)
-    , omega (arith, weighed-add 0 once k b inside, weighed-more row k (c .loop-k-test .taken), c .loop-k .inv .4)
-    , omega (arith, sum-add often k a inside-often, sumBy-more (λ x. x) (c .args .once .now) k 0 (omega arith), c .loop-k .inv .5, same) )
+    let same = c .loop-k .inv .2 (c .loop-k .k) (omega arith) in (
+      length-set once k (a + b) ∙ c .loop-k .inv .0,
+      length-set often k (getD often k 0 + a) ∙ c .loop-k .inv .1,
+      (λ j h. let ne : j ≢ c .loop-k .k = omega arith in getD-set-other once k j (a + b) 0 ne ∙ c .loop-k .inv .2 j (omega arith)),
+      omega (arith, sum-add once k b inside, sumBy-more (λ x. x) row k 0 (c .loop-k-test .taken), c .loop-k .inv .3),
+      omega (arith, weighed-add 0 once k b inside, weighed-more row k (c .loop-k-test .taken), c .loop-k .inv .4),
+      omega (arith, sum-add often k a inside-often, sumBy-more (λ x. x) (c .args .once .now) k 0 (omega arith), c .loop-k .inv .5, same),
+    )
 
 pub returns : need.returns
 returns c =
     let e : c .loop-k .k ≡ length (c .args .row .now) = omega arith in
     let all : take (c .loop-k .k) (c .args .row .now) ≡ c .args .row .now = take-all (c .loop-k .k) (c .args .row .now) (omega arith) in
-    record
-      { sum = c .loop-k .inv .3 ∙ ap (λ t. sum (c .args .once .now) + sum t) all
-      ; weighed = c .loop-k .inv .4 ∙ ap (λ t. weighed 0 (c .args .once .now) + weighed 0 t) all
-      ; often = c .loop-k .inv .5 ∙ ap (λ n. sum (c .args .often .now) + sum (take n (c .args .once .now))) e }
+    record {
+      sum = c .loop-k .inv .3 ∙ ap (λ t. sum (c .args .once .now) + sum t) all;
+      weighed = c .loop-k .inv .4 ∙ ap (λ t. weighed 0 (c .args .once .now) + weighed 0 t) all;
+      often = c .loop-k .inv .5 ∙ ap (λ n. sum (c .args .often .now) + sum (take n (c .args .once .now))) e;
+    }

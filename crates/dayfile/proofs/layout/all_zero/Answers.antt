@@ -10,6 +10,7 @@ loop-b-again c = zeros-more (c .args .bytes .now) (c .loop-b .b-index) (c .loop-
 
 pub returns : need.returns
 returns c =
-    let all = take-all (c .loop-b .b-index) (c .args .bytes .now) (c .loop-b-test .left) in
-    ( (λ h. subst (All (λ b. b ≡ 0)) all (c .loop-b .inv .0 (eqb-true (c .loop-b .any) 0 h)))
-    , (λ h. eq-eqb (c .loop-b .any) 0 (c .loop-b .inv .1 (subst (All (λ b. b ≡ 0)) (sym all) h))) )
+    let all = take-all (c .loop-b .b-index) (c .args .bytes .now) (c .loop-b-test .left) in (
+      (λ h. subst (All (λ b. b ≡ 0)) all (c .loop-b .inv .0 (eqb-true (c .loop-b .any) 0 h))),
+      (λ h. eq-eqb (c .loop-b .any) 0 (c .loop-b .inv .1 (subst (All (λ b. b ≡ 0)) (sym all) h))),
+    )

@@ -20,16 +20,18 @@ loop-entry-again c =
     let here = entry-fault (getD (c .args .table .now) (c .loop-entry .entry-index) no-entry) (c .args .block .now) in
     let rest = first-fault (drop (c .loop-entry .entry-index + 1) (c .args .table .now)) (c .args .block .now) in
     let step : c .if-not-holds .first ≡ earlier (c .loop-entry .first) here
-             = elim (c .if-not-holds .came)
-               [ then-not-holds w ↦ w .first-is ∙ w .earlier-of-first .ensures ∙ ap (earlier (c .loop-entry .first)) (w .fault .ensures)
-               | else-not-holds w ↦
-                   w .first-is ∙ sym (earlier-none (c .loop-entry .first))
-                   ∙ ap (earlier (c .loop-entry .first)) (sym (none-from-not here (sym (c .holds .ensures) ∙ w .if-not-holds .left))) ] in
-    ( ap (λ o. earlier o rest) step
-      ∙ earlier-assoc (c .loop-entry .first) here rest
-      ∙ ap (earlier (c .loop-entry .first)) (sym (first-more t i b (c .loop-entry-test .taken)))
-      ∙ c .loop-entry .inv .0
-    , sized-more t i (c .loop-entry-test .taken) (c .loop-entry .inv .1) .1 )
+    = elim (c .if-not-holds .came) [
+      | then-not-holds w ↦ w .first-is ∙ w .earlier-of-first .ensures ∙ ap (earlier (c .loop-entry .first)) (w .fault .ensures)
+      | else-not-holds w ↦
+          w .first-is ∙ sym (earlier-none (c .loop-entry .first))
+          ∙ ap (earlier (c .loop-entry .first)) (sym (none-from-not here (sym (c .holds .ensures) ∙ w .if-not-holds .left)))
+    ] in (
+      ap (λ o. earlier o rest) step
+          ∙ earlier-assoc (c .loop-entry .first) here rest
+          ∙ ap (earlier (c .loop-entry .first)) (sym (first-more t i b (c .loop-entry-test .taken)))
+          ∙ c .loop-entry .inv .0,
+      sized-more t i (c .loop-entry-test .taken) (c .loop-entry .inv .1) .1,
+    )
 
 pub returns : need.returns
 returns c =

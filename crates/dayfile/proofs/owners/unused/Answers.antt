@@ -11,9 +11,10 @@ returns-then-slot-ne0 c =
     let os = c .args .slots .now in
     let i = c .loop-slot .slot-index in
     let l = c .loop-slot-test .taken in
-    elim (c .then-slot-ne0 .came)
-    [ then-slot-ne0·by·then-slot-ne0 w ↦ sym (vacant-not os i l (inl (w .if-slot-ne0 .taken))) ∙ c .loop-slot .inv
-    | then-slot-ne0·by·else-slot-ne0·then-slot-ne0-2 w ↦ sym (vacant-not os i l (inr (w .if-slot-ne0-2 .taken))) ∙ c .loop-slot .inv ]
+    elim (c .then-slot-ne0 .came) [
+      | then-slot-ne0·by·then-slot-ne0 w ↦ sym (vacant-not os i l (inl (w .if-slot-ne0 .taken))) ∙ c .loop-slot .inv
+      | then-slot-ne0·by·else-slot-ne0·then-slot-ne0-2 w ↦ sym (vacant-not os i l (inr (w .if-slot-ne0-2 .taken))) ∙ c .loop-slot .inv
+    ]
 
 pub loop-slot-again : need.loop-slot-again
 loop-slot-again c =

@@ -16,10 +16,11 @@ use Rattle.dayfile.proofs.owners.whole.Needs.{then-place-least·by·then-place
 pub returns-then-place-least : need.returns-then-place-least
 returns-then-place-least c =
     let no : placed (c .loop-owner .least) (c .args .limit) (drop (c .loop-owner .owner-index) (c .args .owners .now)) ≡ false =
-        elim (c .then-place-least .came)
-        [ then-place-least·by·then-place-least w ↦ placed-not (c .args .owners .now) (c .loop-owner .owner-index) (c .loop-owner-test .taken) (c .loop-owner .least) (c .args .limit) (inl (w .if-place-least .taken))
-        | then-place-least·by·else-place-least·then-place-limit w ↦ placed-not (c .args .owners .now) (c .loop-owner .owner-index) (c .loop-owner-test .taken) (c .loop-owner .least) (c .args .limit) (inr (inl (w .if-place-limit .taken)))
-        | then-place-least·by·else-place-least·else-place-limit·then-owner-eq0 w ↦ placed-not (c .args .owners .now) (c .loop-owner .owner-index) (c .loop-owner-test .taken) (c .loop-owner .least) (c .args .limit) (inr (inr (w .if-owner-eq0 .taken))) ] in
+    elim (c .then-place-least .came) [
+      | then-place-least·by·then-place-least w ↦ placed-not (c .args .owners .now) (c .loop-owner .owner-index) (c .loop-owner-test .taken) (c .loop-owner .least) (c .args .limit) (inl (w .if-place-least .taken))
+      | then-place-least·by·else-place-least·then-place-limit w ↦ placed-not (c .args .owners .now) (c .loop-owner .owner-index) (c .loop-owner-test .taken) (c .loop-owner .least) (c .args .limit) (inr (inl (w .if-place-limit .taken)))
+      | then-place-least·by·else-place-least·else-place-limit·then-owner-eq0 w ↦ placed-not (c .args .owners .now) (c .loop-owner .owner-index) (c .loop-owner-test .taken) (c .loop-owner .least) (c .args .limit) (inr (inr (w .if-owner-eq0 .taken)))
+    ] in
     sym (and-left _ _ (sym (c .loop-owner .inv .0) ∙ no))
 
 pub loop-owner-again : need.loop-owner-again
@@ -28,10 +29,11 @@ loop-owner-again c =
     let i = c .loop-owner .owner-index in
     let l = c .loop-owner-test .taken in
     let n : getD (c .args .owners .now) (c .loop-owner .owner-index) no-owner .parts < 2 ^ 32 = search needs in
-    let p = parts-more os i l in
-    ( sym (placed-more os i l (c .loop-owner .least) (c .args .limit) (c .if-place-least .left) (c .if-place-limit .left) (c .if-owner-eq0 .left)) ∙ c .loop-owner .inv .0
-    , omega (arith, p, c .loop-owner .inv .1)
-    , omega (arith, n, c .loop-owner .inv .2) )
+    let p = parts-more os i l in (
+      sym (placed-more os i l (c .loop-owner .least) (c .args .limit) (c .if-place-least .left) (c .if-place-limit .left) (c .if-owner-eq0 .left)) ∙ c .loop-owner .inv .0,
+      omega (arith, p, c .loop-owner .inv .1),
+      omega (arith, n, c .loop-owner .inv .2),
+    )
 
 pub returns : need.returns
 unfolding placed parts-of

@@ -10,6 +10,7 @@ loop-k-again c = sym (digits-more (c .loop-k .block) (c .args .at) (c .loop-k .k
 
 pub returns : need.returns
 returns c =
-    record
-      { written = sym (digits-end (c .loop-k .block) (c .args .at + c .loop-k .k) (c .args .width - c .loop-k .k) (c .loop-k .rest) (omega arith)) ∙ c .loop-k .inv
-      ; sound = search needs }
+    record {
+      written = sym (digits-end (c .loop-k .block) (c .args .at + c .loop-k .k) (c .args .width - c .loop-k .k) (c .loop-k .rest) (omega arith)) ∙ c .loop-k .inv;
+      sound = search needs;
+    }

@@ -24,9 +24,10 @@ returns-then-room-lt512 c =
     let r = c .args .rec .now in
     let f = found r (c .args .block .now) (c .table-for .result .now) None (c .in-rest .ensures tt) (c .table-for .ensures .table) (c .pre .1) in
     let o : record-owned 48 (c .args .rec .now) ≡ true =
-        elim (c .match-rec .came)
-        [ in-Resource·else-not-kept w ↦ ap (record-owned 48) (w .in-Resource .is) ∙ sym (w .if-not-kept .ensures tt)
-        | in-rest-rec w ↦ unowned 48 (c .args .rec .now) (w .in-rest-rec .not-Resource) ] in
+    elim (c .match-rec .came) [
+      | in-Resource·else-not-kept w ↦ ap (record-owned 48) (w .in-Resource .is) ∙ sym (w .if-not-kept .ensures tt)
+      | in-rest-rec w ↦ unowned 48 (c .args .rec .now) (w .in-rest-rec .not-Resource)
+    ] in
     record { value = sym (ap answer (refused-room r (c .args .room) f o (c .if-room-lt512 .taken))) }
 
 pub returns-else-room-lt512 : need.returns-else-room-lt512
@@ -34,7 +35,8 @@ returns-else-room-lt512 c =
     let r = c .args .rec .now in
     let f = found r (c .args .block .now) (c .table-for .result .now) None (c .in-rest .ensures tt) (c .table-for .ensures .table) (c .pre .1) in
     let o : record-owned 48 (c .args .rec .now) ≡ true =
-        elim (c .match-rec .came)
-        [ in-Resource·else-not-kept w ↦ ap (record-owned 48) (w .in-Resource .is) ∙ sym (w .if-not-kept .ensures tt)
-        | in-rest-rec w ↦ unowned 48 (c .args .rec .now) (w .in-rest-rec .not-Resource) ] in
+    elim (c .match-rec .came) [
+      | in-Resource·else-not-kept w ↦ ap (record-owned 48) (w .in-Resource .is) ∙ sym (w .if-not-kept .ensures tt)
+      | in-rest-rec w ↦ unowned 48 (c .args .rec .now) (w .in-rest-rec .not-Resource)
+    ] in
     record { value = sym (ap answer (unrefused r (c .args .room) f o (c .if-room-lt512 .left))) }

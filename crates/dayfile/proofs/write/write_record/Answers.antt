@@ -29,11 +29,12 @@ returns-in-Break-refuse c =
     let e = answer-err (unwritten r (length was)) f (c .in-Break-refuse .ensures tt .value) in
     let w = c .compose-block .ensures .fits in
     let v = p .1 ∙ ap Err (p .2) in
-    record
-      { written-or-untouched = subst (λ a. Writes r was a was) (sym v) (writes-not r was f e)
-      ; refused-just-for = subst (Written-only r (length was)) (ap answer e ∙ sym v) (written-only r (length was) w)
-      ; reads-back = refused-back _ (c .from-residual .result) f v
-      ; any-record-decodes = reads-back r w }
+    record {
+      written-or-untouched = subst (λ a. Writes r was a was) (sym v) (writes-not r was f e);
+      refused-just-for = subst (Written-only r (length was)) (ap answer e ∙ sym v) (written-only r (length was) w);
+      reads-back = refused-back _ (c .from-residual .result) f v;
+      any-record-decodes = reads-back r w;
+    }
 
 pub overwrite-requires : need.overwrite-requires
 overwrite-requires c κs =
@@ -47,8 +48,9 @@ returns c =
     let was = c .args .out .now in
     let w = c .compose-block .ensures .fits in
     let e = answer-ok (unwritten r (length was)) (c .in-Continue-refuse .ensures tt .value) in
-    record
-      { written-or-untouched = writes-so r was (c .overwrite .last .out) e (c .overwrite .ensures ∙ ap (λ t. t ++ drop 512 was) (c .compose-block .ensures .value))
-      ; refused-just-for = subst (Written-only r (length was)) (ap answer e) (written-only r (length was) w)
-      ; reads-back = written-back r was (c .overwrite .last .out) w (written-only r (length was) w .written .0 (ap answer e) .0) (c .overwrite .ensures ∙ ap (λ t. t ++ drop 512 was) (c .compose-block .ensures .value))
-      ; any-record-decodes = reads-back r w }
+    record {
+      written-or-untouched = writes-so r was (c .overwrite .last .out) e (c .overwrite .ensures ∙ ap (λ t. t ++ drop 512 was) (c .compose-block .ensures .value));
+      refused-just-for = subst (Written-only r (length was)) (ap answer e) (written-only r (length was) w);
+      reads-back = written-back r was (c .overwrite .last .out) w (written-only r (length was) w .written .0 (ap answer e) .0) (c .overwrite .ensures ∙ ap (λ t. t ++ drop 512 was) (c .compose-block .ensures .value));
+      any-record-decodes = reads-back r w;
+    }

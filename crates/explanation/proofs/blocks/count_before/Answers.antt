@@ -12,13 +12,14 @@ loop-i-holds c = (refl, omega arith)
 pub loop-i-again : need.loop-i-again
 loop-i-again c =
     let k = sym (c .kind-at .ensures) in
-    elim (c .if-kind-at-letter .came)
-    [ then-kind-at-letter w ↦
-        let m = tally-same (c .args .letter) (c .args .file .now) (c .loop-i .i) (k ∙ w .if-kind-at-letter .taken) in
-        (omega (arith, m, w .count-is), omega (arith, w .count-is))
-    | else-kind-at-letter w ↦
-        let m = tally-other (c .args .letter) (c .args .file .now) (c .loop-i .i) (λ e. w .if-kind-at-letter .left (sym k ∙ e)) in
-        (omega (arith, m, w .count-is), omega (arith, w .count-is)) ]
+    elim (c .if-kind-at-letter .came) [
+      | then-kind-at-letter w ↦
+          let m = tally-same (c .args .letter) (c .args .file .now) (c .loop-i .i) (k ∙ w .if-kind-at-letter .taken) in
+          (omega (arith, m, w .count-is), omega (arith, w .count-is))
+      | else-kind-at-letter w ↦
+          let m = tally-other (c .args .letter) (c .args .file .now) (c .loop-i .i) (λ e. w .if-kind-at-letter .left (sym k ∙ e)) in
+          (omega (arith, m, w .count-is), omega (arith, w .count-is))
+    ]
 
 pub returns : need.returns
 returns c =

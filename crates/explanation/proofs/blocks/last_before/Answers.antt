@@ -18,12 +18,13 @@ loop-i-again c =
     let i = c .loop-i .i in
     let b = c .block-at-block .ensures in
     let k : kind (c .args .file .now) (c .loop-i .i) ≡ c .byte-at .result = sym (c .byte-at .ensures ∙ ap (λ x. getD x 0 0) b) in
-    elim (c .if-byte-at-letter .came)
-    [ then-byte-at-letter w ↦
-        w .last-is ∙ w .word-at-last .ensures ∙ ap (value 4 4) b ∙ sym (latest-same (c .args .letter) f i (k ∙ w .if-byte-at-letter .taken))
-    | else-byte-at-letter w ↦
-        w .last-is ∙ c .loop-i .inv
-        ∙ sym (ap (λ o. valueOr o 0) (latest-other (c .args .letter) f i (λ e. w .if-byte-at-letter .left (sym k ∙ e)))) ]
+    elim (c .if-byte-at-letter .came) [
+      | then-byte-at-letter w ↦
+          w .last-is ∙ w .word-at-last .ensures ∙ ap (value 4 4) b ∙ sym (latest-same (c .args .letter) f i (k ∙ w .if-byte-at-letter .taken))
+      | else-byte-at-letter w ↦
+          w .last-is ∙ c .loop-i .inv
+          ∙ sym (ap (λ o. valueOr o 0) (latest-other (c .args .letter) f i (λ e. w .if-byte-at-letter .left (sym k ∙ e))))
+    ]
 
 pub returns : need.returns
 returns c =

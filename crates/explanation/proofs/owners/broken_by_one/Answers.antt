@@ -21,10 +21,11 @@ returns-then-owner-eq0 c =
     ∙ c .loop-owner .inv .0
 
 pub loop-owner-again : need.loop-owner-again
-loop-owner-again c =
-    ( sym (used-more (c .args .owners .now) (c .loop-owner .owner-index) (c .loop-owner-test .taken) (c .loop-owner .slot) (c .loop-owner .least) (c .args .limit) (c .if-place-least .left) (c .if-place-limit .left) (c .if-owner-eq0 .left))
-      ∙ c .loop-owner .inv .0
-    , omega arith )
+loop-owner-again c = (
+  sym (used-more (c .args .owners .now) (c .loop-owner .owner-index) (c .loop-owner-test .taken) (c .loop-owner .slot) (c .loop-owner .least) (c .args .limit) (c .if-place-least .left) (c .if-place-limit .left) (c .if-owner-eq0 .left))
+      ∙ c .loop-owner .inv .0,
+  omega arith,
+)
 
 pub returns : need.returns
 unfolding used-rule

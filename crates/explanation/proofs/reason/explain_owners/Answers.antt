@@ -9,12 +9,12 @@ pub returns-in-Some : need.returns-in-Some
 returns-in-Some c =
     let n = c .byte-at .ensures ∙ sym (count-there (c .args .block .now)) in
     ap by-rule (sym (c .in-Some .is) ∙ c .broken-rule .ensures
-      ∙ ap (λ k. owners-rule (c .args .participants) k (c .owners-of .result)) n
-      ∙ ap (owners-rule (c .args .participants) (resource-of (c .args .block .now) .«owner_count»)) (c .owners-of .ensures))
+    ∙ ap (λ k. owners-rule (c .args .participants) k (c .owners-of .result)) n
+    ∙ ap (owners-rule (c .args .participants) (resource-of (c .args .block .now) .«owner_count»)) (c .owners-of .ensures))
 
 pub returns-in-None : need.returns-in-None
 returns-in-None c =
     let n = c .byte-at .ensures ∙ sym (count-there (c .args .block .now)) in
     ap by-rule (sym (c .in-None .is) ∙ c .broken-rule .ensures
-      ∙ ap (λ k. owners-rule (c .args .participants) k (c .owners-of .result)) n
-      ∙ ap (owners-rule (c .args .participants) (resource-of (c .args .block .now) .«owner_count»)) (c .owners-of .ensures))
+    ∙ ap (λ k. owners-rule (c .args .participants) k (c .owners-of .result)) n
+    ∙ ap (owners-rule (c .args .participants) (resource-of (c .args .block .now) .«owner_count»)) (c .owners-of .ensures))

@@ -18,7 +18,7 @@ pub returns-then-not-allow : need.returns-then-not-allow
 returns-then-not-allow c =
     let e = c .args .self .now in
     let f : allows (e .limits) (value (c .loop-i .at) (e .width) (c .args .block .now)) ≡ false
-          = ap (allows (e .limits)) (sym (c .number-at .ensures)) ∙ sym (c .allow .ensures) ∙ c .if-not-allow .taken in
+    = ap (allows (e .limits)) (sym (c .number-at .ensures)) ∙ sym (c .allow .ensures) ∙ c .if-not-allow .taken in
     sym (from-bad e (e .count) (c .loop-i .-i) (c .loop-i .at) (c .args .block .now) (c .loop-i-test .taken) f) ∙ c .loop-i .inv .0
 
 pub add-at : need.add-at
@@ -28,9 +28,10 @@ pub loop-i-again : need.loop-i-again
 loop-i-again c =
     let e = c .args .self .now in
     let f : allows (e .limits) (value (c .loop-i .at) (e .width) (c .args .block .now)) ≡ true
-          = ap (allows (e .limits)) (sym (c .number-at .ensures)) ∙ sym (c .allow .ensures) ∙ c .if-not-allow .left in
-    ( sym (from-good e (e .count) (c .loop-i .-i) (c .loop-i .at) (c .args .block .now) (c .loop-i-test .taken) f) ∙ c .loop-i .inv .0
-    , omega (arith, add-one-mul (c .loop-i .-i) (c .args .self .now .stride)) )
+    = ap (allows (e .limits)) (sym (c .number-at .ensures)) ∙ sym (c .allow .ensures) ∙ c .if-not-allow .left in (
+      sym (from-good e (e .count) (c .loop-i .-i) (c .loop-i .at) (c .args .block .now) (c .loop-i-test .taken) f) ∙ c .loop-i .inv .0,
+      omega (arith, add-one-mul (c .loop-i .-i) (c .args .self .now .stride)),
+    )
 
 pub returns : need.returns
 returns c =

@@ -24,7 +24,8 @@ loop-i-again c =
     let e = c .args .self .now in
     let b = c .args .block .now in
     let n = c .word-inside-n .result in
-    let got = c .word-inside-n .ensures ∙ ap (λ w. value (c .loop-i .at) w b) (sym (c .pre .1 .1 .0)) in
-    ( fields-more e (c .loop-i .-i) (c .loop-i .at) n b (c .loop-i .bad) _ (c .loop-i .inv .0) (c .loop-i .inv .1) got
-      (outside-whole (e .limits) (c .args .least) (c .args .most) n (c .pre .1 .1 .1))
-    , omega (arith, add-one-mul (c .loop-i .-i) (c .args .self .now .stride)) )
+    let got = c .word-inside-n .ensures ∙ ap (λ w. value (c .loop-i .at) w b) (sym (c .pre .1 .1 .0)) in (
+      fields-more e (c .loop-i .-i) (c .loop-i .at) n b (c .loop-i .bad) _ (c .loop-i .inv .0) (c .loop-i .inv .1) got
+          (outside-whole (e .limits) (c .args .least) (c .args .most) n (c .pre .1 .1 .1)),
+      omega (arith, add-one-mul (c .loop-i .-i) (c .args .self .now .stride)),
+    )
