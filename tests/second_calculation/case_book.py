@@ -1,7 +1,8 @@
 """The cases and their expected answers, as they are kept in files.
 
-A case is a file, a block by itself, or a record offered for writing. README.md
-describes the bytes of cases.bin and the lines of expected.txt.
+A case is a file, a block by itself, or a record offered for writing; divisions of
+cents are kept in a file of their own. README.md describes the bytes of cases.bin and
+divisions.bin and the lines of expected.txt.
 """
 
 from dataclasses import dataclass
@@ -9,6 +10,7 @@ from dataclasses import dataclass
 from day_file import (
     BLOCK_BYTES, FIELDS, Accepted, Record, encode, judge, judge_block, writing_refusal,
 )
+from division import divide
 
 FILE, BLOCK, RECORD = 0, 1, 2
 PATCH_HEAD_BYTES = 6        # offset and length: closing a shorter gap of zeros is cheaper
@@ -58,10 +60,28 @@ class RecordCase:
         return refusal_line(refusal) if refusal else f"written {digest(encode(self.record))}"
 
 
-class CaseBook:
-    """The cases in order, each kept once, with labels that say what they are."""
+@dataclass(frozen=True)
+class DivisionCase:
+    cents: int
+    weights: tuple
 
-    def __init__(self):
+    def packed(self):
+        head = number(self.cents, 8) + number(len(self.weights), 2)
+        return head + b"".join(number(weight, 4) for weight in self.weights)
+
+    def answer(self):
+        shares = divide(self.cents, self.weights)
+        return "nothing" if shares is None else " ".join(map(str, shares))
+
+
+class CaseBook:
+    """The cases in order, each kept once, with labels that say what they are.
+
+    Each line about a case begins with `heading`, if there is one, and its number.
+    """
+
+    def __init__(self, heading=""):
+        self.heading = heading
         self.cases = {}
 
     def add(self, label, case):
@@ -71,14 +91,14 @@ class CaseBook:
         return b"".join(case.packed() for case in self.cases)
 
     def expected(self):
-        return numbered_lines(case.answer() for case in self.cases)
+        return self.lines(case.answer() for case in self.cases)
 
     def labels(self):
-        return numbered_lines(self.cases.values())
+        return self.lines(self.cases.values())
 
-
-def numbered_lines(texts):
-    return "".join(f"{rank} {text}\n" for rank, text in enumerate(texts))
+    def lines(self, texts):
+        numbered = (f"{self.heading} {rank} {text}" for rank, text in enumerate(texts))
+        return "".join(f"{line.strip()}\n" for line in numbered)
 
 
 # --- Answers ---------------------------------------------------------------------------
@@ -108,7 +128,7 @@ def refusal_line(refusal):
     return " ".join(str(word) for word in words)
 
 
-# --- Bytes of cases.bin -----------------------------------------------------------------
+# --- Bytes of cases.bin and divisions.bin -----------------------------------------------
 
 
 def number(value, width):
@@ -141,7 +161,7 @@ def nonzero_runs(data):
 
 
 class CaseReader:
-    """Takes cases.bin apart again."""
+    """Takes cases.bin or divisions.bin apart again."""
 
     def __init__(self, packed):
         self.packed = packed
@@ -150,6 +170,10 @@ class CaseReader:
     def cases(self):
         while self.at < len(self.packed):
             yield self.case()
+
+    def divisions(self):
+        while self.at < len(self.packed):
+            yield self.division_case()
 
     def case(self):
         case_kind = self.number(1)
@@ -172,6 +196,10 @@ class CaseReader:
         buffer_bytes = self.number(2)
         values = tuple(self.value(field) for field in FIELDS[kind])
         return RecordCase(Record(kind, values), buffer_bytes)
+
+    def division_case(self):
+        cents, records = self.number(8), self.number(2)
+        return DivisionCase(cents, tuple(self.number(4) for _ in range(records)))
 
     def value(self, field):
         return int.from_bytes(self.take(4), "little", signed=field.signed)

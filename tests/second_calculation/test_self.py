@@ -3,8 +3,9 @@
     python3 -m unittest test_self
 
 A plain judge, written byte by byte without the tables of day_file.py, answers all
-cases once more; packing by fixed layouts checks reading and writing of records; and
-the cases are asked whether they try what they are meant to try.
+cases once more; packing by fixed layouts checks reading and writing of records; cents
+are divided once more by the rule word by word; and the cases are asked whether they try
+what they are meant to try.
 """
 
 import struct
@@ -12,11 +13,15 @@ import tempfile
 import unittest
 from pathlib import Path
 
-from case_book import BlockCase, CaseReader, FileCase, RecordCase, digest
+from case_book import BlockCase, CaseReader, DivisionCase, FileCase, RecordCase, digest
 from day_file import (
     FIELDS, UNNAMED, Accepted, decode, encode, judge, judge_block, writing_refusal,
 )
-from make_cases import book_of_cases, write_book
+from division import (
+    WAYS_MOST, by_choosing, by_trying, closest_of_all, divide, divisions_there_are, ways_to_try,
+)
+from division_cases import CENTS_MOST, CENTS_USUAL_MOST, RECORDS_USUAL_MOST, WEIGHT_MOST
+from make_cases import book_of_cases, book_of_divisions, write_books
 from record_cases import formable
 from samples import blocks_of, of_owners
 from small_day import small_day
@@ -27,6 +32,9 @@ FILES = [case for case in BOOK.cases if isinstance(case, FileCase)]
 BLOCKS = [case for case in BOOK.cases if isinstance(case, BlockCase)]
 RECORDS = [case for case in BOOK.cases if isinstance(case, RecordCase)]
 VERDICTS = [judge(case.data) for case in FILES]
+DIVISION_BOOK = book_of_divisions()
+SHARES = {case: divide(case.cents, case.weights) for case in DIVISION_BOOK.cases}
+DIVIDED = {case: shares for case, shares in SHARES.items() if case.cents and shares}
 
 
 # --- A plain judge: byte by byte, no tables -----------------------------------------
@@ -248,6 +256,53 @@ def layout_block(kind, values):
     return struct.pack(LAYOUTS[kind], ord(kind), *values, weighted_sum(unchecked))
 
 
+# --- The division word by word, and ways to get it wrong ------------------------------
+
+
+def worded_division(cents, weights, rank=None, product_bits=128, sum_bits=64):
+    """Whole parts, then a cent each by rank; unless told otherwise as the rule says."""
+    rank = rank or (lambda remainder, place: (-remainder, place))
+    total = sum(weights) % 2**sum_bits or 1
+    products = [cents * weight % 2**product_bits for weight in weights]
+    shares = [product // total for product in products]
+    places = sorted(range(len(weights)), key=lambda place: rank(products[place] % total, place))
+    for place in places[:max(cents - sum(shares), 0)]:
+        shares[place] += 1
+    return tuple(shares)
+
+
+def ranked_by(rank):
+    return lambda cents, weights: worded_division(cents, weights, rank)
+
+
+def rounded_each(cents, weights):
+    total = sum(weights)
+    return tuple((2 * cents * weight + total) // (2 * total) for weight in weights)
+
+
+def rest_to_the_last(cents, weights):
+    *others, _ = (cents * weight // sum(weights) for weight in weights)
+    return (*others, cents - sum(others))
+
+
+def in_floating_point(cents, weights):
+    exact = [float(cents) * weight / sum(weights) for weight in weights]
+    return worded_division(cents, weights, lambda _, place: (-(exact[place] % 1), place))
+
+
+WRONG_DIVISIONS = {
+    "ties to the later record": ranked_by(lambda remainder, place: (-remainder, -place)),
+    "smallest remainders first": ranked_by(lambda remainder, place: (remainder, place)),
+    "the rest to the first ones": ranked_by(lambda remainder, place: place),
+    "the rest to the last one": rest_to_the_last,
+    "each share rounded": rounded_each,
+    "weights ignored": lambda cents, weights: worded_division(cents, [1] * len(weights)),
+    "floating point": in_floating_point,
+    "products of 63 bits": lambda cents, weights: worded_division(cents, weights, product_bits=63),
+    "sums of 32 bits": lambda cents, weights: worded_division(cents, weights, sum_bits=32),
+}
+
+
 # --- Tests ---------------------------------------------------------------------------
 
 
@@ -302,26 +357,83 @@ class PlainJudgeAgrees(unittest.TestCase):
             self.assertEqual(plain, case.answer(), BOOK.cases[case])
 
 
+class Divisions(unittest.TestCase):
+    def test_worked_figures(self):
+        self.assertEqual((34, 33, 33), divide(100, (1, 1, 1)))
+        self.assertEqual((0, 1), divide(1, (1, 2)))
+        self.assertEqual((1, 1, 1), divide(3, (2, 7, 6)))
+        self.assertEqual((2, 0, 1), divide(3, (7, 2, 6)))
+
+    def test_without_cents_or_weights(self):
+        self.assertEqual((), divide(0, ()))
+        self.assertEqual((0, 0), divide(0, (0, 0)))
+        self.assertIsNone(divide(1, ()))
+        self.assertIsNone(divide(1, (0, 0)))
+
+    def test_the_rule_word_by_word_agrees(self):
+        for case, shares in DIVIDED.items():
+            worded = worded_division(case.cents, case.weights)
+            self.assertEqual(worded, shares, DIVISION_BOOK.cases[case])
+
+    def test_trying_and_choosing_agree(self):
+        for case in DIVIDED:
+            if ways_to_try(case.cents, case.weights) <= WAYS_MOST:
+                tried = by_trying(case.cents, case.weights)
+                self.assertEqual(tried, by_choosing(case.cents, case.weights))
+
+    def test_no_division_whatever_is_closer(self):
+        tiny = [
+            case for case in DIVIDED if divisions_there_are(case.cents, len(case.weights)) <= 500
+        ]
+        self.assertGreater(len(tiny), 300)
+        for case in tiny:
+            self.assertEqual(SHARES[case], closest_of_all(case.cents, case.weights))
+
+    def test_shares_add_up_and_are_less_than_a_cent_off(self):
+        for case, shares in DIVIDED.items():
+            self.assertEqual(case.cents, sum(shares))
+            total = sum(case.weights)
+            for share, weight in zip(shares, case.weights, strict=True):
+                self.assertLess(abs(total * share - case.cents * weight), total)
+
+    def test_a_heavier_record_never_gets_less_and_one_without_weight_nothing(self):
+        for case, shares in DIVIDED.items():
+            pairs = sorted(zip(case.weights, shares, strict=True))
+            for (light, less), (heavy, more) in zip(pairs, pairs[1:]):
+                self.assertTrue(light == heavy or less <= more)
+            self.assertFalse(any(share for weight, share in pairs if weight == 0))
+
+
 class CasesAreKept(unittest.TestCase):
     def test_making_them_twice_gives_the_same_bytes(self):
-        again = book_of_cases()
-        self.assertEqual(BOOK.packed(), again.packed())
-        self.assertEqual(BOOK.expected(), again.expected())
+        for book, again in ((BOOK, book_of_cases()), (DIVISION_BOOK, book_of_divisions())):
+            self.assertEqual(book.packed(), again.packed())
+            self.assertEqual(book.expected(), again.expected())
 
-    def test_they_read_back_from_their_file(self):
+    def test_they_read_back_from_their_files(self):
         with tempfile.TemporaryDirectory() as directory:
-            write_book(BOOK, Path(directory), labels=False)
+            write_books(BOOK, DIVISION_BOOK, Path(directory), labels=False)
             packed = (Path(directory) / "cases.bin").read_bytes()
+            packed_divisions = (Path(directory) / "divisions.bin").read_bytes()
             lines = (Path(directory) / "expected.txt").read_text().splitlines()
         cases = list(CaseReader(packed).cases())
         self.assertEqual(list(BOOK.cases), cases)
-        self.assertEqual([f"{n} {case.answer()}" for n, case in enumerate(cases)], lines)
+        divisions = list(CaseReader(packed_divisions).divisions())
+        self.assertEqual(list(DIVISION_BOOK.cases), divisions)
+        answers = [f"{n} {case.answer()}" for n, case in enumerate(cases)]
+        self.assertEqual(answers + [division_line(n, c) for n, c in enumerate(divisions)], lines)
+
+    def test_bytes_of_a_division(self):
+        packed = b"\x64\0\0\0\0\0\0\0" + b"\x02\0" + b"\x01\0\0\0" + b"\0\xe1\xf5\x05"
+        self.assertEqual(packed, DivisionCase(100, (1, 100_000_000)).packed())
 
     def test_there_are_enough_and_they_stay_small(self):
         self.assertGreaterEqual(len(FILES), 700)
         self.assertGreaterEqual(len(BLOCKS), 60)
         self.assertGreaterEqual(len(RECORDS), 120)
         self.assertLess(len(BOOK.packed()), 2_500_000)
+        self.assertGreaterEqual(len(SHARES), 400)
+        self.assertLess(len(DIVISION_BOOK.packed()), 500_000)
 
     def test_records_hold_only_what_a_caller_can_form(self):
         for case in RECORDS:
@@ -360,6 +472,23 @@ class CasesTryEverything(unittest.TestCase):
         self.assertEqual({2, 3, 4, 6}, numbers_met(BLOCKS))
         self.assertEqual({4, 6, 18}, numbers_met(RECORDS))
 
+    def test_divisions_keep_to_their_limits_and_reach_them(self):
+        self.assertEqual({0, CENTS_MOST}, ends(case.cents for case in SHARES))
+        weights = [weight for case in SHARES for weight in case.weights]
+        self.assertEqual({0, WEIGHT_MOST}, ends(weights))
+        self.assertEqual({0, 200}, ends(len(case.weights) for case in SHARES))
+
+    def test_48_records_are_left_with_every_number_of_cents(self):
+        left = {cents_left(case) for case in DIVIDED if len(case.weights) == 48}
+        self.assertEqual(set(range(48)), left)
+
+    def test_usual_divisions_tell_wrong_ones_from_right_ones(self):
+        usual = [case for case in DIVIDED if is_usual(case)]
+        self.assertGreater(len(usual), 400)
+        for label, wrong in WRONG_DIVISIONS.items():
+            told = sum(wrong(case.cents, case.weights) != SHARES[case] for case in usual)
+            self.assertGreater(told, 20, label)
+
 
 def accepted_blocks():
     """Every block that is accepted in a file or by itself, once."""
@@ -388,6 +517,28 @@ def values_accepted():
             pairs = zip(FIELDS[record.kind], record.values, strict=True)
             seen.update((record.kind, field.name, value) for field, value in pairs)
     return seen
+
+
+def division_line(number, case):
+    shares = SHARES[case]
+    words = ["nothing"] if shares is None else shares
+    return " ".join(map(str, ["division", number, *words]))
+
+
+def ends(values):
+    values = list(values)
+    return {min(values), max(values)}
+
+
+def cents_left(case):
+    """What the whole parts leave over: all remainders together."""
+    total = sum(case.weights)
+    return sum(case.cents * weight % total for weight in case.weights) // total
+
+
+def is_usual(case):
+    """Whether the engine itself could come to divide this."""
+    return case.cents <= CENTS_USUAL_MOST and len(case.weights) <= RECORDS_USUAL_MOST
 
 
 def numbers_met(cases):

@@ -2,6 +2,7 @@
 mod answer;
 mod book;
 mod digest;
+mod divisions;
 mod reader;
 mod values;
 
@@ -9,14 +10,19 @@ use answer::AnswerDisplay;
 use answer::answer_case;
 use book::LONGEST;
 use book::next_case;
+use divisions::MOST;
+use divisions::NO_LINE;
+use divisions::divide_all;
 use reader::BadBookError;
 use reader::Reader;
 use std::error::AnyError;
 use std::fmt::Write;
 use std::fs;
 
-/// The book of cases; the program is run in the folder where it stands.
+/// The book of cases, and that of divisions; the program is run in the folder where they stand.
 const CASES: &str = "cases.bin";
+
+const DIVISIONS: &str = "divisions.bin";
 
 fn main(rt: LibcRuntime) -> Result<(), AnyError> {
     rt.report(run(&rt))
@@ -31,6 +37,8 @@ fn run(rt: &LibcRuntime) -> Result<(), AnyError> {
         &mut [0; LONGEST],
         &mut lines,
     )?;
+    let divisions = fs::read(rt, DIVISIONS)?;
+    divide_all(divisions.as_slice(), &mut [NO_LINE; MOST], &mut lines)?;
     rt.print(lines.as_str())?;
     Ok(())
 }

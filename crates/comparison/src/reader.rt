@@ -65,6 +65,13 @@ impl<'b> Reader<'b> {
             _ => Err(BadBook::Cut),
         }
     }
+
+    /// A number in eight bytes.
+    pub fn long(&mut self) -> Result<u64, BadBook> {
+        let low = self.word()?;
+        let high = self.word()?;
+        Ok(u64::from(high) * 4_294_967_296 + u64::from(low))
+    }
 }
 
 pub impl fmt::Display for BadBook as BadBookDisplay {

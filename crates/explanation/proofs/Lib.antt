@@ -4,3 +4,6 @@ mod Standing
 mod Slots
 mod Rules
 mod Rows
+mod Fields
+mod Breaches
+mod Outsides

@@ -1,10 +1,9 @@
 -- The rule that owners break: the turns of the loops over slots.
-use mathlib.Core.Path.{_≡_, refl, sym, ap, _∙_}
-use mathlib.Core.List.{List, [], _∷_}
+use mathlib.Core.Path.{_≡_, sym, ap, _∙_}
+use mathlib.Core.List.{List}
 use mathlib.Core.Logic.{_⊎_, inl, inr}
-use mathlib.Core.Bool.{Bool, true, false, cond, _&&_}
+use mathlib.Core.Bool.{cond, _&&_}
 use Prim.Native.Nat.{ℕ, _+_, _-_, _<_, _≤_, min}
-use native.Mathlib.Omega.{arith}
 use lib.Dec.{eqb, ltb, leb}
 use lib.ListN.{length, getD, take, drop}
 use Rattle.std.specs.Options.{orOther}
@@ -17,7 +16,7 @@ use Rattle.dayfile.specs.Owners.{parts-of}
 use Rattle.explanation.specs.declared.finding.OwnersRule.{OwnersRule}
 use Rattle.explanation.specs.declared.finding.OwnersRule.the-variants.{Rising, Below, Parts, Sum, Unused}
 use Rattle.explanation.specs.Shares.{used-rule, sum-rule, unused-rule, owners-rule}
-use Rattle.explanation.proofs.Cuts.{take-min, drop-min}
+use Rattle.dayfile.proofs.Cuts.{take-min, drop-min}
 
 abbrev pub no-owner : Owner
 no-owner = record { place = 0; parts = 0 }

@@ -1,7 +1,7 @@
 -- What an explanation finds, refusal by refusal.
 use mathlib.Core.List.{List}
-use mathlib.Core.Bool.{Bool, cond, not, _&&_}
-use Prim.Native.Nat.{ℕ, _/_}
+use mathlib.Core.Bool.{cond, not, _&&_}
+use Prim.Native.Nat.{ℕ}
 use lib.Dec.{eqb}
 use lib.ListN.{length, getD, take}
 use mir.Syntax.{w32}
@@ -17,8 +17,11 @@ use Rattle.dayfile.specs.Records.{resource-of}
 use Rattle.explanation.specs.declared.finding.Finding.{Finding}
 use Rattle.explanation.specs.declared.finding.Finding.the-variants.{Kind, Price, Unnamed, NumberOfResource, Other}
 use Rattle.explanation.specs.declared.finding.Finding.the-variants.{Length as Bytes, Check as Sums, Field as Limits, Rising as Last, Owners as Rule, Counts as Count-both}
+use Rattle.explanation.specs.declared.finding.NamedField.{NamedField}
+use Rattle.explanation.specs.declared.finding.FieldName.{FieldName}
 use Rattle.explanation.specs.declared.finding.FieldName.the-variants.{Participant, Resource}
 use Rattle.explanation.specs.declared.finding.OwnersRule.{OwnersRule}
+use Rattle.explanation.specs.declared.table.Content.{Content}
 use Rattle.explanation.specs.declared.table.Content.the-variants.{Whole, Signed}
 use Rattle.explanation.specs.declared.table.Content.the-variants.{Unnamed as No-field}
 use Rattle.explanation.specs.declared.table.Row.{Row}
@@ -30,20 +33,24 @@ abbrev pub check-finding : List ℕ → Finding
 check-finding b = Sums (value 508 4 b) (weighed 0 (take 508 b))
 
 -- what a field at byte p holds, and what it may hold
+abbrev pub told-as : Content → (FieldName → NamedField) → ℕ → ℕ → Finding
+told-as No-field place p n = Unnamed p n
+told-as (Whole name least most) place p n = Limits (place name) n least most
+told-as (Signed name most) place p n = Price (place name) (toZ w32 n) most
+
 abbrev pub told : Row → ℕ → List ℕ → Finding
-told r p b =
-    elim (r .content) [
-      | No-field ↦ Unnamed p (value p (r .width) b)
-      | Whole name least most ↦ Limits (named r name p) (value p (r .width) b) least most
-      | Signed name most ↦ Price (named r name p) (toZ w32 (value p (r .width) b)) most
-    ]
+told r p b = told-as (r .content) (λ name. named r name p) p (value p (r .width) b)
+
+abbrev pub by-row : Option Row → ℕ → List ℕ → Finding
+by-row (Some r) p b = told r p b
+by-row None p b = Other
 
 -- the field of a block that starts at byte p: R also has to bear the number of the block before it
 abbrev pub field-finding : ℕ → ℕ → List ℕ → Finding
 field-finding before p b =
     cond (eqb (getD b 0 0) 82 && (eqb p 4 && not (eqb (value 4 4 b) before)))
     (NumberOfResource (value 4 4 b) before)
-    (elim (row-at (rows-for (getD b 0 0)) p) [ Some r ↦ told r p b | None ↦ Other ])
+    (by-row (row-at (rows-for (getD b 0 0)) p) p b)
 
 -- the participant or Resource of block k, and the last one before it
 abbrev pub rising-finding : ℕ → List ℕ → Finding

@@ -1,4 +1,5 @@
 pub mod Names
 pub mod Shares
 pub mod Findings
+pub mod Outside
 pub mod Agreement

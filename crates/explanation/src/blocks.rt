@@ -1,7 +1,6 @@
 //! The blocks of a file, and what stands before one of them.
 ghost use mathlib.Core.Path.{_≡_};
-ghost use Prim.Native.Nat.{ℕ, _+_, _-_, _*_, _/_, _%_, _^_, _<_, _≤_};
-ghost use lib.ListN.{length, getD, set, take, drop};
+ghost use Prim.Native.Nat.{_<_};
 ghost use Rattle.std.specs.Options.{valueOr};
 ghost use Rattle.dayfile.specs.Files.{block, kind, kind-before, number-before, tally, latest};
 use crate::bytes::byte_at;

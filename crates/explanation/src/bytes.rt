@@ -1,7 +1,7 @@
 //! Numbers in bytes; a byte past the end counts as 0.
 ghost use mathlib.Core.Path.{_≡_};
-ghost use Prim.Native.Nat.{ℕ, _+_, _-_, _*_, _/_, _%_, _^_, _<_, _≤_};
-ghost use lib.ListN.{length, getD, set, take, drop};
+ghost use Prim.Native.Nat.{_^_, _<_};
+ghost use lib.ListN.{getD, take};
 ghost use Rattle.dayfile.specs.Bytes.{value, weighed};
 ghost use Rattle.dayfile.specs.Layout.{Wide};
 

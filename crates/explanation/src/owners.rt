@@ -1,8 +1,7 @@
 //! The rule that the owners of a Resource break.
 ghost use mathlib.Core.Path.{_≡_};
-ghost use Prim.Native.Nat.{ℕ, _+_, _-_, _*_, _/_, _%_, _^_, _<_, _≤_};
-ghost use lib.ListN.{length, getD, set, take, drop};
-ghost use Rattle.dayfile.specs.Owners.{parts-of};
+ghost use Prim.Native.Nat.{_+_, _^_, _<_};
+ghost use lib.ListN.{length, drop};
 ghost use Rattle.dayfile.specs.Records.{resource-of, owner-from};
 ghost use Rattle.explanation.specs.Shares.{used-rule, sum-rule, unused-rule, owners-rule};
 use crate::bytes::half_at;

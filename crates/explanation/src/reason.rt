@@ -1,9 +1,8 @@
 //! The explanation of a refusal.
 ghost use mathlib.Core.Path.{_≡_};
-ghost use Prim.Native.Nat.{ℕ, _+_, _-_, _*_, _/_, _%_, _^_, _<_, _≤_};
-ghost use lib.ListN.{length, getD, set, take, drop};
 ghost use Rattle.dayfile.specs.Files.{block};
 ghost use Rattle.explanation.specs.Findings.{finding, check-finding, field-finding, rising-finding, owners-finding, counts-finding};
+ghost use Rattle.explanation.specs.Outside.{Explains};
 ghost use Rattle.explanation.specs.Agreement.{Fields-agree};
 use crate::blocks::block_at;
 use crate::blocks::count_before;
@@ -27,6 +26,14 @@ use dayfile::Fault;
 /// What breaks the rule of a refusal, found in the bytes of the file.
 /// A refusal of another layer, or one that does not fit the bytes, is told as `Other`, or by what stands at its place.
 pub fn explain(fault: Fault, file: &[u8]) -> Finding
+    ensures found_in_the_bytes { λ r. ⌜ r ≡ finding fault (now (file .entry)) ⌝ }
+    ensures broken_rule_is_told { λ r. ⌜ Explains (now (file .entry)) fault r ⌝ }
+{
+    find(fault, file)
+}
+
+/// What stands in the file at the place of a refusal.
+fn find(fault: Fault, file: &[u8]) -> Finding
     ensures { λ r. ⌜ r ≡ finding fault (now (file .entry)) ⌝ }
 {
     match fault {

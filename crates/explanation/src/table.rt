@@ -1,8 +1,6 @@
 //! The fields of each kind of block, by name.
 ghost use mathlib.Core.Path.{_≡_};
 ghost use mathlib.Core.Bool.{true};
-ghost use Prim.Native.Nat.{ℕ, _+_, _-_, _*_, _/_, _%_, _^_, _<_, _≤_};
-ghost use lib.ListN.{length, getD, set, take, drop};
 ghost use Rattle.explanation.specs.Names.{rows-for, row-at, starts, named, steady, all-steady};
 ghost use Rattle.explanation.specs.Findings.{told};
 use crate::bytes::number_at;

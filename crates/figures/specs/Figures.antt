@@ -9,16 +9,19 @@ use Rattle.dayfile.specs.declared.record.Record.the-variants.{Day, Participant,
 use Rattle.dayfile.specs.Bytes.{value, weighed}
 use Rattle.dayfile.specs.Records.{day-body, encode}
 use Rattle.dayfile.specs.Files.{accepted}
+use Rattle.division.specs.Division.{divided}
 use Rattle.figures.specs.SmallDay.{small-header, small-participant, small-resource, small-day, some-participant, some-resource, some-real-time}
 
--- a figure: a number that is worked out and what it comes to, or a test that passes
+-- a figure: a number or numbers that are worked out and what they come to, or a test that passes
 pub data Figure : Type 0 where
   is : ℕ → ℕ → Figure
+  are : List ℕ → List ℕ → Figure
   passes : Bool → Figure
 
 abbrev pub All-hold : List Figure → Type 0
 All-hold [] = Unit {0}
 All-hold (is a b ∷ fs) = (a ≡ b) × All-hold fs
+All-hold (are a b ∷ fs) = (a ≡ b) × All-hold fs
 All-hold (passes t ∷ fs) = (t ≡ true) × All-hold fs
 
 -- the check in a record's block
@@ -70,10 +73,18 @@ real-time-figures r =
     ∷ is (at r 324 1) 3 ∷ is (at r 347 1) 2                                  -- real-time flags
     ∷ []
 
+-- cents divided over weights: 100 over 1, 1, 1, and 1 over 1, 2
+abbrev division-figures : List Figure
+division-figures =
+    are (divided 100 (1 ∷ 1 ∷ 1 ∷ [])) (34 ∷ 33 ∷ 33 ∷ [])
+    ∷ are (divided 1 (1 ∷ 2 ∷ [])) (0 ∷ 1 ∷ [])
+    ∷ []
+
 abbrev pub figures : List Figure
 figures =
-    small-figures
-    ++ (participant-figures (Participant some-participant) ++ (resource-figures (Resource some-resource) ++ real-time-figures (RealTime some-real-time)))
+    division-figures
+    ++ (small-figures
+    ++ (participant-figures (Participant some-participant) ++ (resource-figures (Resource some-resource) ++ real-time-figures (RealTime some-real-time))))
 
 -- THE WORKED FIGURES HOLD
 abbrev pub Figures-hold : Type 0

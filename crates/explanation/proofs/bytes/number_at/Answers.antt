@@ -1,7 +1,6 @@
 use mathlib.Core.Path.{_≡_, sym, ap, _∙_}
 use mathlib.Core.Logic.{inl, inr}
 use native.Mathlib.Omega.{arith}
-use Prim.Native.Nat.{ℕ}
 use Rattle.dayfile.specs.Bytes.{value}
 use Rattle.dayfile.proofs.Numbers.{value-one}
 use Rattle.explanation.proofs.bytes.number_at.Needs as need

@@ -1,5 +1,5 @@
 use mathlib.Core.Path.{_≡_}
-use Prim.Native.Nat.{_+_, _≤_}
+use Prim.Native.Nat.{_+_}
 use lib.ListN.{drop}
 use Rattle.explanation.specs.Shares.{used-rule}
 use Rattle.explanation.proofs.owners.broken_by_one.Given as given

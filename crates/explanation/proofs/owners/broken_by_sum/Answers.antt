@@ -1,11 +1,10 @@
 use borrow.Author.Needs.{needs}
-use mathlib.Core.Path.{_≡_, sym, ap, _∙_}
+use mathlib.Core.Path.{_≡_, sym}
 use native.Mathlib.Omega.{arith}
-use Prim.Native.Nat.{_+_, _<_, _^_}
+use Prim.Native.Nat.{_<_, _^_}
 use lib.ListN.{getD}
 use Rattle.std.proofs.shelf.Lists.{at-drop-all}
 use Rattle.dayfile.specs.Owners.{parts-of}
-use Rattle.explanation.specs.Shares.{sum-rule}
 use Rattle.explanation.proofs.Rules.{no-owner, parts-more, sum-whole, sum-other}
 use Rattle.explanation.proofs.owners.broken_by_sum.Needs as need
 

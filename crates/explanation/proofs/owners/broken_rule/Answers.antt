@@ -1,7 +1,3 @@
-use mathlib.Core.Path.{_≡_, ap, _∙_}
-use Prim.Native.Nat.{_+_}
-use Rattle.std.specs.Options.{orOther}
-use Rattle.explanation.specs.Shares.{used-rule, sum-rule, unused-rule, owners-rule}
 use Rattle.explanation.proofs.Rules.{rule-by-halves}
 use Rattle.explanation.proofs.owners.broken_rule.Needs as need
 

@@ -1,4 +1,4 @@
-use mathlib.Core.Path.{_≡_, sym, ap, _∙_}
+use mathlib.Core.Path.{sym, ap, _∙_}
 use Rattle.dayfile.specs.Records.{resource-of}
 use Rattle.explanation.specs.Findings.{by-rule}
 use Rattle.explanation.specs.Shares.{owners-rule}

@@ -1,4 +1,4 @@
-use mathlib.Core.Path.{sym, ap, _∙_}
+use mathlib.Core.Path.{sym, _∙_}
 use Rattle.std.proofs.shelf.Lists.{at-drop-all}
 use Rattle.explanation.specs.Names.{row-at}
 use Rattle.explanation.proofs.Rows.{no-row, row-steady, row-here, row-later}

@@ -1,0 +1,9 @@
+pub mod Tallies
+pub mod Keys
+pub mod Parts
+pub mod Closest
+pub mod FairLaws
+pub mod Handing
+pub mod Weights
+pub mod Outcomes
+pub mod Cutting

@@ -1,0 +1,4 @@
+pub mod Records
+pub mod Division
+pub mod Fairness
+pub mod Cuts
