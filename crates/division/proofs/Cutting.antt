@@ -1,14 +1,12 @@
 -- The cut-off over a list of keys.
-use mathlib.Core.Path.{_≡_, refl, sym, ap, _∙_, subst}
-use mathlib.Core.Logic.{_⊎_, inl, inr}
-use mathlib.Core.Bool.{Bool, true, false, cond}
-use mathlib.Core.List.{List, [], _∷_, map}
-use Prim.Native.Nat.{ℕ, zero, suc, _+_, _-_, _*_, _<_, _≤_}
+use mathlib.Core.Path.{_≡_, sym, ap, _∙_, subst}
+use mathlib.Core.Logic.{inl, inr}
+use mathlib.Core.List.{List}
+use Prim.Native.Nat.{ℕ, suc, _+_, _*_, _<_, _≤_}
 use native.Mathlib.Omega.{arith}
 use lib.Dec.{leb}
 use lib.ListN.{length, getD, set, take}
-use Rattle.std.specs.Iters.{counting}
-use Rattle.std.specs.shelf.Lists.{sum, sumBy}
+use Rattle.std.specs.shelf.Lists.{sum}
 use Rattle.std.proofs.shelf.Counted.{length-map-counting, getD-map-counting, fill-by-all}
 use Rattle.std.proofs.shelf.Edits.{fill-by-more}
 use Rattle.std.proofs.shelf.Lists.{take-all, getD-take, length-take-le}
@@ -16,7 +14,7 @@ use Rattle.std.proofs.shelf.Sums.{sumBy-more}
 use Rattle.std.proofs.shelf.Tests.{cases-lt, cases-eq}
 use Rattle.division.specs.Division.{whole-part, remainder, left-over, share, divided}
 use Rattle.division.specs.Cuts.{key, Distinct, tick, reached, topped}
-use Rattle.division.proofs.Tallies.{tally, front-tally, tally-same}
+use Rattle.division.proofs.Tallies.{front-tally, tally-same}
 use Rattle.division.proofs.Keys.{reach, reach-none, reach-all, reach-step, reach-less, keys-distinct}
 use Rattle.division.proofs.Parts.{share-cut, key-below, left-few}
 

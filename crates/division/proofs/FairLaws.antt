@@ -1,27 +1,27 @@
 -- The division is fair.
 use mathlib.Core.Path.{_≡_, refl, sym, ap, _∙_, subst}
-use mathlib.Core.Logic.{_⊎_, inl, inr}
-use mathlib.Core.List.{List, [], _∷_, map}
-use mathlib.Core.Bool.{Bool, true, false, cond, _&&_, _||_}
-use Prim.Native.Nat.{ℕ, zero, suc, _+_, _-_, _*_, _/_, _%_, _<_, _≤_}
-use native.Mathlib.Nat.{suc-mul, mul-comm, mul-add, mul-one, mul-zero, zero-mul, one-mul, zero-div, div-le-of-le-mul}
+use mathlib.Core.Logic.{inl, inr}
+use mathlib.Core.List.{List, [], _∷_}
+use mathlib.Core.Bool.{Bool, true, false}
+use Prim.Native.Nat.{ℕ, suc, _+_, _*_, _/_, _<_, _≤_}
+use native.Mathlib.Nat.{suc-mul, mul-comm, mul-add, mul-one, mul-zero, zero-mul, zero-div, div-le-of-le-mul}
 use native.Mathlib.Omega.{arith}
 use lib.Dec.{ltb, leb, eqb}
 use lib.ListN.{length, getD}
 use Rattle.std.specs.Iters.{counting}
-use Rattle.std.specs.shelf.Lists.{sum, sumBy}
+use Rattle.std.specs.shelf.Lists.{sum}
 use Rattle.std.proofs.shelf.Bits.{mul-le, div-below, le-div}
 use Rattle.std.proofs.shelf.Counted.{length-map-counting, getD-map-counting}
 use Rattle.std.proofs.shelf.Lists.{getD-past}
 use Rattle.std.proofs.shelf.Sums.{sum-map}
-use Rattle.std.proofs.shelf.Tests.{cases-eq, cases-lt, cases-bool, lt-ltb, le-ltb, ltb-true, ltb-false, leb-true, leb-false, eqb-true, eqb-false, eq-eqb, ne-eqb, and-cases, cond-true, cond-false}
+use Rattle.std.proofs.shelf.Tests.{cases-eq, cases-lt, le-ltb, leb-true, leb-false, ne-eqb, cond-false}
 use Rattle.std.proofs.shelf.Ways.{tells}
 use Rattle.division.specs.Division.{whole-part, remainder, left-over, sooner, rank, share, divided, indivisible}
 use Rattle.division.specs.Fairness.{apart, scale, distance, distances, Fair}
 use Rattle.division.proofs.Tallies.{tally, places-tally, sum-tally, tally-same, tally-le, tally-zero, tally-add}
 use Rattle.division.specs.Cuts.{tick, key}
 use Rattle.division.proofs.Keys.{tick-few}
-use Rattle.division.proofs.Parts.{parts, remainder-below, made-up, left-is, left-among, rank-tally, share-cut, some-cut, key-below}
+use Rattle.division.proofs.Parts.{parts, remainder-below, made-up, left-is, left-among, rank-tally, share-cut, some-cut}
 use Rattle.division.proofs.Closest.{nearer, closest-sum}
 
 -- a remainder of 0 gets no extra cent

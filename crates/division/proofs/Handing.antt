@@ -1,5 +1,5 @@
 -- Records that take their shares one after the other.
-use mathlib.Core.Path.{_≡_, refl, sym, ap, _∙_, subst}
+use mathlib.Core.Path.{_≡_, refl, sym, ap, _∙_}
 use mathlib.Core.List.{List, [], _∷_, map}
 use Prim.Native.Nat.{ℕ, zero, suc, _+_, _<_, _≤_}
 use native.Mathlib.Numerals.{add-one}
@@ -12,12 +12,6 @@ pub handed-none : {S : Type 0} (give : S → ℕ → S) (xs : List S) → handed
 unfolding handed
 handed-none give [] = refl
 handed-none give (x ∷ xs) = refl
-
-pub length-handed : {S : Type 0} (give : S → ℕ → S) (xs : List S) (cs : List ℕ) → length (handed give xs cs) ≡ length xs
-unfolding handed
-length-handed give [] cs = refl
-length-handed give (x ∷ xs) [] = refl
-length-handed give (x ∷ xs) (c ∷ cs) = ap suc (length-handed give xs cs)
 
 -- a record that has not taken its share yet is as it was
 pub handed-at : {S : Type 0} (give : S → ℕ → S) (xs : List S) (cs : List ℕ) (i : ℕ) (d : S) → getD (handed give xs (take i cs)) i d ≡ getD xs i d

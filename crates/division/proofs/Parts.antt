@@ -1,18 +1,15 @@
 -- Whole parts, remainders, and the cents that the whole parts leave over.
-use mathlib.Core.Path.{_≡_, refl, sym, ap, _∙_, subst}
-use mathlib.Core.Logic.{_⊎_, inl, inr}
+use mathlib.Core.Path.{_≡_, refl, sym, ap, _∙_}
+use mathlib.Core.Logic.{inl, inr}
 use mathlib.Core.List.{List, [], _∷_}
-use mathlib.Core.Bool.{Bool, true, false, cond, _&&_, _||_}
-use Prim.Native.Nat.{ℕ, zero, suc, _+_, _-_, _*_, _/_, _%_, _<_, _≤_}
-use native.Mathlib.Nat.{suc-mul, mul-comm, mul-add, mul-one, mul-zero, zero-mul, zero-div, zero-mod, div-add-mod, mod-lt, le-of-mul-le-mul-left, lt-of-mul-lt-mul-left}
+use Prim.Native.Nat.{ℕ, zero, suc, _+_, _-_, _*_, _<_, _≤_}
+use native.Mathlib.Nat.{suc-mul, mul-comm, mul-add, mul-one, div-add-mod, mod-lt, le-of-mul-le-mul-left, lt-of-mul-lt-mul-left}
 use native.Mathlib.Omega.{arith}
-use lib.Dec.{ltb, leb, eqb}
+use lib.Dec.{ltb, leb}
 use lib.ListN.{length, getD}
-use Rattle.std.specs.Iters.{counting}
-use Rattle.std.specs.shelf.Lists.{sum, sumBy}
+use Rattle.std.specs.shelf.Lists.{sum}
 use Rattle.std.proofs.shelf.Bits.{mul-le}
-use Rattle.std.proofs.shelf.Tests.{cases-eq, cases-lt, lt-ltb, le-ltb, cond-true, cond-false}
-use Rattle.std.proofs.shelf.Ways.{tells}
+use Rattle.std.proofs.shelf.Tests.{cases-eq, lt-ltb}
 use Rattle.division.specs.Division.{whole-part, remainder, left-over, sooner, rank, share}
 use Rattle.division.proofs.Tallies.{tally, places-tally, sum-tally, tally-same, tally-le, tally-add, tally-times, tally-part}
 use Rattle.division.specs.Cuts.{tick, key}

@@ -1,14 +1,14 @@
 -- The weights of records: their sum, and what a loop over the records has read of them.
-use mathlib.Core.Path.{_≡_, refl, sym, ap, _∙_, subst}
+use mathlib.Core.Path.{_≡_, sym, ap, _∙_}
 use mathlib.Core.Bool.{Bool, _&&_, _||_}
-use mathlib.Core.List.{List, [], _∷_, map}
-use Prim.Native.Nat.{ℕ, zero, suc, _+_, _-_, _*_, _/_, _%_, _<_, _≤_}
+use mathlib.Core.List.{List, map}
+use Prim.Native.Nat.{ℕ, _+_, _*_, _/_, _%_, _<_, _≤_}
 use native.Mathlib.Omega.{arith}
 use lib.Dec.{ltb, eqb}
 use lib.ListN.{length, getD, take}
 use mir.Val.{boolByte}
 use Rattle.std.specs.shelf.Lists.{sum, sumBy}
-use Rattle.std.proofs.shelf.Lists.{getD-map, length-map, take-all}
+use Rattle.std.proofs.shelf.Lists.{getD-map, take-all}
 use Rattle.std.proofs.shelf.Sums.{sum-map, sumBy-more}
 use Rattle.division.specs.Records.{Lawful, handed}
 use Rattle.division.specs.Division.{whole-part, remainder, left-over, sooner, rank, share, divided}

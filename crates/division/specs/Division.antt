@@ -13,6 +13,7 @@ abbrev pub places : List ℕ → List ℕ
 places weights = counting 0 (length weights)
 
 -- the exact share at a place is cents × weight / all weights: its whole part, and the remainder
+-- (a number divided by 0 is 0: where nothing weighs, only 0 cents are divided, and all is 0)
 unfoldable pub whole-part : ℕ → List ℕ → ℕ → ℕ
 whole-part cents weights i = cents * getD weights i 0 / sum weights
 

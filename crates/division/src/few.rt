@@ -11,9 +11,10 @@ ghost use Rattle.division.specs.Division.{indivisible, whole-part, remainder, 
 ghost use Rattle.division.specs.Cuts.{key, Distinct, reached, topped};
 use crate::weighted::Weighted;
 
-/// The most records, and the most cents, that 64 bits hold the working of.
+/// The most records that are divided over in 64-bit arithmetic.
 pub(crate) const MOST_RECORDS: usize = 48;
 
+/// The most cents that are divided in 64-bit arithmetic.
 pub(crate) const MOST_CENTS: u64 = 100_000_000_000;
 
 /// What all records weigh.
@@ -30,11 +31,11 @@ fn weight_of_few<T: Weighted>(records: &[T]) -> u64
 }
 
 /// A remainder and its place in one number: the larger remainder has the larger key, then the earlier place.
-fn key_of(remainder: u64, place: usize) -> u64
-    requires { ⌜ remainder ≤ 4800000000 ⌝ ∗ ⌜ place < 48 ⌝ }
-    ensures { λ r. ⌜ r ≡ remainder * 64 + (63 - place) ⌝ }
+fn key_of(rest: u64, place: usize) -> u64
+    requires { ⌜ rest ≤ 4800000000 ⌝ ∗ ⌜ place < 48 ⌝ }
+    ensures { λ r. ⌜ r ≡ rest * 64 + (63 - place) ⌝ }
 {
-    remainder * 64 + (63 - place as u64)
+    rest * 64 + (63 - place as u64)
 }
 
 /// Notes each record's whole part, and the key of its remainder. Answers the cents that the whole parts leave over.
@@ -55,9 +56,10 @@ fn note_parts<T: Weighted>(
     let mut left = cents;
     for (i, record) in records.iter().enumerate() {
         let exact = cents * u64::from(record.weight());
-        wholes[i] = exact / total;
+        let whole = exact / total;
+        wholes[i] = whole;
         keys[i] = key_of(exact % total, i);
-        left -= exact / total;
+        left -= whole;
     }
     left
 }
@@ -87,11 +89,11 @@ fn cut_off(left: u64, above: u64, keys: &[u64]) -> u64
     let mut high = above;
     loop {
         let middle = low + (high - low) / 2;
-        let reached = reaching(middle, keys);
-        if reached == left {
+        let count = reaching(middle, keys);
+        if count == left {
             return middle;
         }
-        if reached > left {
+        if count > left {
             low = middle;
         } else {
             high = middle;

@@ -1,7 +1,6 @@
 use native.Mathlib.Omega.{arith}
-use mathlib.Core.Path.{_≡_, sym, _∙_, ap}
+use mathlib.Core.Path.{sym}
 use mathlib.Core.List.{map}
-use lib.ListN.{length}
 use Rattle.std.proofs.shelf.Lists.{length-map}
 use Rattle.division.specs.Division.{divided}
 use Rattle.division.proofs.FairLaws.{length-divided, nothing-at}

@@ -3,7 +3,6 @@ use native.Mathlib.Omega.{arith}
 use mathlib.Core.Path.{_≡_, refl, _∙_, ap}
 use mathlib.Core.List.{map}
 use Prim.Native.Nat.{_+_, _-_, _*_, _/_, _%_, _≤_}
-use lib.ListN.{length}
 use Rattle.std.proofs.shelf.Bits.{mul-le}
 use Rattle.std.proofs.shelf.Lists.{length-map}
 use Rattle.division.specs.Division.{whole-part, remainder}

@@ -1,5 +1,5 @@
 use native.Mathlib.Omega.{arith}
-use mathlib.Core.Path.{_∙_, sym}
+use mathlib.Core.Path.{_∙_}
 use lib.Dec.{leb}
 use lib.ListN.{getD}
 use Rattle.division.proofs.Keys.{byte-tick, tick-few}

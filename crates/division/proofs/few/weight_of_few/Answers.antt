@@ -1,5 +1,5 @@
 use native.Mathlib.Omega.{arith}
-use mathlib.Core.Path.{_≡_, _∙_}
+use mathlib.Core.Path.{_∙_}
 use Rattle.division.proofs.Weights.{weight-more, weight-all}
 use Rattle.division.proofs.few.weight_of_few.Needs as need
 

@@ -1,7 +1,6 @@
 use borrow.Author.Needs.{needs}
 use native.Mathlib.Nat.{div-le-of-le-mul, mul-comm}
 use native.Mathlib.Omega.{arith}
-use mathlib.Core.Path.{_≡_}
 use Prim.Native.Nat.{_≤_, _*_}
 use Rattle.std.proofs.shelf.Bits.{mul-le}
 use Rattle.division.proofs.many.whole_part.Needs as need
