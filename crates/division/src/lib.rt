@@ -1,4 +1,6 @@
 //! Whole cents divided over weighted records, so that nobody can divide them better.
+#![tactic(auto)]
+
 mod dividing;
 mod few;
 mod many;

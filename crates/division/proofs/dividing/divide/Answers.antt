@@ -10,19 +10,19 @@ returns-then-cents-eq0 g c =
     let given = g.T.Weighted.given in
     let cents = c.args.cents in
     let ws = map weighs xs in
-    let taken = shares_taken weighs given cents xs c.take-nothing.new.records (divided 0 ws) (nothing_divides cents ws c.if-cents-eq0.true) c.take-nothing.ensures
+    let taken = shares_taken weighs given cents xs c.take_nothing.new.records (divided 0 ws) (nothing_divides cents ws c.if-cents-eq0.true) c.take_nothing.ensures
     (ap (λ n. divided n ws) (sym c.if-cents-eq0.true)) in
-    let o = outcome weighs g.T.Weighted.holds given g.T.Weighted.lawful cents xs (Some tt) c.take-nothing.new.records taken.0 taken.1 in
+    let o = outcome weighs g.T.Weighted.holds given g.T.Weighted.lawful cents xs (Some tt) c.take_nothing.new.records taken.0 taken.1 in
     record { answer = o.answer; untouched = o.untouched; shares = o.shares; fair = o.fair; only = o.only; weights = o.weights }
 
-pub returns-then-cents-le-MOST-CENTS : goal.returns-then-cents-le-MOST-CENTS
-returns-then-cents-le-MOST-CENTS g c =
+pub returns-then-cents-le-MOST_CENTS : goal.returns-then-cents-le-MOST_CENTS
+returns-then-cents-le-MOST_CENTS g c =
     let o = outcome g.T.Weighted.weighs g.T.Weighted.holds g.T.Weighted.given g.T.Weighted.lawful c.args.cents c.args.records.now
-    c.divide-few.result c.divide-few.new.records c.divide-few.ensures.answer c.divide-few.ensures.after in
+    c.divide_few.result c.divide_few.new.records c.divide_few.ensures.answer c.divide_few.ensures.after in
     record { answer = o.answer; untouched = o.untouched; shares = o.shares; fair = o.fair; only = o.only; weights = o.weights }
 
-pub returns-else-records-le-MOST-RECORDS : goal.returns-else-records-le-MOST-RECORDS
-returns-else-records-le-MOST-RECORDS g c =
+pub returns-else-records-le-MOST_RECORDS : goal.returns-else-records-le-MOST_RECORDS
+returns-else-records-le-MOST_RECORDS g c =
     let o = outcome g.T.Weighted.weighs g.T.Weighted.holds g.T.Weighted.given g.T.Weighted.lawful c.args.cents c.args.records.now
-    c.divide-many.result c.divide-many.new.records c.divide-many.ensures.answer c.divide-many.ensures.after in
+    c.divide_many.result c.divide_many.new.records c.divide_many.ensures.answer c.divide_many.ensures.after in
     record { answer = o.answer; untouched = o.untouched; shares = o.shares; fair = o.fair; only = o.only; weights = o.weights }

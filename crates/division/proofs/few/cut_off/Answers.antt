@@ -13,8 +13,8 @@ loop-left-init c = (
   omega arith,
 )
 
-pub overflow-add-middle : goal.overflow-add-middle
-overflow-add-middle c = let m : c.loop-left.low + (c.loop-left.high - c.loop-left.low) / 2 ≤ c.args.above = omega arith in search rules
+pub overflow_add-middle : goal.overflow_add-middle
+overflow_add-middle c = let m : c.loop-left.low + (c.loop-left.high - c.loop-left.low) / 2 ≤ c.args.above = omega arith in search rules
 
 pub loop-left-smaller-then-count-left-2 : goal.loop-left-smaller-then-count-left-2
 loop-left-smaller-then-count-left-2 c =

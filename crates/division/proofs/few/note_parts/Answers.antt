@@ -9,27 +9,27 @@ use Rattle.division.proofs.Cutting.{filled_more}
 use Rattle.division.proofs.few.note_parts.Given as given
 use Rattle.division.proofs.few.note_parts.Goals as goal
 
-pub overflow-mul-exact : goal.overflow-mul-exact
-overflow-mul-exact g c =
+pub overflow_mul-exact : goal.overflow_mul-exact
+overflow_mul-exact g c =
     let light : c.from.result ≤ 100000000 = omega (arith, g.T.Weighted.lawful.light c.index-records-i.result) in
     let m : c.args.cents * c.from.result ≤ 100000000000 * 100000000 = mul-le c.args.cents c.from.result 100000000000 100000000 c.requires.sizes.0 light in
     search rules
 
 -- the parts that were noted are the record's
-whole : (g : given.Over) (c : goal.After-key-of g)
+whole : (g : given.Over) (c : goal.After-key_of g)
     → c.args.cents * c.from.result / c.args.total ≡ whole_part c.args.cents (map g.T.Weighted.weighs c.args.records.now) c.loop-i.i
 whole g c =
     whole_at g.T.Weighted.weighs c.args.records.now c.loop-i.i c.index-records-i.result c.args.cents c.from.result c.args.total _
     c.loop-i-test.true c.index-records-i.is c.requires.weighed.0 (c.from.ensures ∙ c.weight.ensures) refl
 
-rest : (g : given.Over) (c : goal.After-key-of g)
+rest : (g : given.Over) (c : goal.After-key_of g)
     → c.args.cents * c.from.result % c.args.total ≡ remainder c.args.cents (map g.T.Weighted.weighs c.args.records.now) c.loop-i.i
 rest g c =
     remainder_at g.T.Weighted.weighs c.args.records.now c.loop-i.i c.index-records-i.result c.args.cents c.from.result c.args.total _
     c.loop-i-test.true c.index-records-i.is c.requires.weighed.0 (c.from.ensures ∙ c.weight.ensures) refl
 
-pub overflow-sub-left : goal.overflow-sub-left
-overflow-sub-left g c =
+pub overflow_sub-left : goal.overflow_sub-left
+overflow_sub-left g c =
     let xs = c.args.records.now in
     let ws = map g.T.Weighted.weighs xs in
     let n = length-map xs g.T.Weighted.weighs in
@@ -40,9 +40,9 @@ loop-i-preserved g c =
     let ws = map g.T.Weighted.weighs c.args.records.now in
     let cents = c.args.cents in
     let i = c.loop-i.i in (
-      omega (arith, whole g c, overflow-sub-left g c, tally_more (whole_part cents ws) i),
+      omega (arith, whole g c, overflow_sub-left g c, tally_more (whole_part cents ws) i),
       filled_more (whole_part cents ws) c.loop-i.wholes i _ (omega (arith, c.requires.room)) (whole g c) c.loop-i.invariant.1,
-      filled_more (key 64 (remainder cents ws)) c.loop-i.keys i _ (omega (arith, c.requires.room)) (c.key-of.ensures ∙ ap (λ r. r * 64 + (63 - i)) (rest g c)) c.loop-i.invariant.2,
+      filled_more (key 64 (remainder cents ws)) c.loop-i.keys i _ (omega (arith, c.requires.room)) (c.key_of.ensures ∙ ap (λ r. r * 64 + (63 - i)) (rest g c)) c.loop-i.invariant.2,
     )
 
 pub returns : goal.returns

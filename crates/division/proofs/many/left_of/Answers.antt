@@ -6,8 +6,8 @@ use Rattle.division.proofs.Weights.{weight_at, weight_within, whole_at, wholes_m
 use Rattle.division.proofs.many.left_of.Given as given
 use Rattle.division.proofs.many.left_of.Goals as goal
 
-pub whole-part-left-requires : goal.whole-part-left-requires
-whole-part-left-requires g c =
+pub whole_part-left-requires : goal.whole_part-left-requires
+whole_part-left-requires g c =
     let xs = c.args.records.now in
     let ws = map g.T.Weighted.weighs xs in
     let i = c.loop-record.record-index in
@@ -16,15 +16,15 @@ whole-part-left-requires g c =
     (c.requires.1, omega (arith, weight_within ws i (omega arith), c.requires.0))
 
 -- the whole part that was taken is the record's
-took : (g : given.Over) (c : goal.After-whole-part-left g)
-    → c.whole-part-left.result ≡ whole_part c.args.cents (map g.T.Weighted.weighs c.args.records.now) c.loop-record.record-index
+took : (g : given.Over) (c : goal.After-whole_part-left g)
+    → c.whole_part-left.result ≡ whole_part c.args.cents (map g.T.Weighted.weighs c.args.records.now) c.loop-record.record-index
 took g c =
     whole_at g.T.Weighted.weighs c.args.records.now c.loop-record.record-index c.record-item.result
-    c.args.cents c.weight.result c.args.total c.whole-part-left.result
-    c.loop-record-test.true c.record-item.is c.requires.0 c.weight.ensures c.whole-part-left.ensures
+    c.args.cents c.weight.result c.args.total c.whole_part-left.result
+    c.loop-record-test.true c.record-item.is c.requires.0 c.weight.ensures c.whole_part-left.ensures
 
-pub overflow-sub-left : goal.overflow-sub-left
-overflow-sub-left g c =
+pub overflow_sub-left : goal.overflow_sub-left
+overflow_sub-left g c =
     let xs = c.args.records.now in
     let ws = map g.T.Weighted.weighs xs in
     let n = length-map xs g.T.Weighted.weighs in
@@ -33,7 +33,7 @@ overflow-sub-left g c =
 pub loop-record-preserved : goal.loop-record-preserved
 loop-record-preserved g c =
     let ws = map g.T.Weighted.weighs c.args.records.now in
-    omega (arith, took g c, overflow-sub-left g c, tally_more (whole_part c.args.cents ws) c.loop-record.record-index)
+    omega (arith, took g c, overflow_sub-left g c, tally_more (whole_part c.args.cents ws) c.loop-record.record-index)
 
 pub returns : goal.returns
 returns g c =

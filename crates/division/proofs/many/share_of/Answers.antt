@@ -5,8 +5,8 @@ use Rattle.division.proofs.Weights.{weight_at, weight_within, whole_at, share_of
 use Rattle.division.proofs.many.share_of.Given as given
 use Rattle.division.proofs.many.share_of.Goals as goal
 
-pub whole-part-whole-requires : goal.whole-part-whole-requires
-whole-part-whole-requires g c =
+pub whole_part-whole-requires : goal.whole_part-whole-requires
+whole_part-whole-requires g c =
     let xs = c.args.records.now in
     let weighs = g.T.Weighted.weighs in
     let place = c.args.place in
@@ -15,18 +15,18 @@ whole-part-whole-requires g c =
 
 -- the parts make the share
 whole : (g : given.Over) (c : goal.After-from g)
-    → c.whole-part-whole.result + c.from.result ≡ share c.args.cents (map g.T.Weighted.weighs c.args.records.now) c.args.place
+    → c.whole_part-whole.result + c.from.result ≡ share c.args.cents (map g.T.Weighted.weighs c.args.records.now) c.args.place
 whole g c =
     let xs = c.args.records.now in
     let weighs = g.T.Weighted.weighs in
     let cents = c.args.cents in
-    share_of cents (map weighs xs) c.args.place c.whole-part-whole.result c.rank-of.result c.args.left c.from.result
-    (whole_at weighs xs c.args.place c.index-records-place.result cents c.weight.result c.args.total c.whole-part-whole.result
-    c.requires.1.1.0 c.index-records-place.is c.requires.0 c.weight.ensures c.whole-part-whole.ensures)
-    c.rank-of.ensures c.requires.1.1.1 c.from.ensures
+    share_of cents (map weighs xs) c.args.place c.whole_part-whole.result c.rank_of.result c.args.left c.from.result
+    (whole_at weighs xs c.args.place c.index-records-place.result cents c.weight.result c.args.total c.whole_part-whole.result
+    c.requires.1.1.0 c.index-records-place.is c.requires.0 c.weight.ensures c.whole_part-whole.ensures)
+    c.rank_of.ensures c.requires.1.1.1 c.from.ensures
 
-pub overflow-add-result : goal.overflow-add-result
-overflow-add-result g c =
+pub overflow_add-result : goal.overflow_add-result
+overflow_add-result g c =
     let xs = c.args.records.now in
     let weighs = g.T.Weighted.weighs in
     let t = whole g c in
