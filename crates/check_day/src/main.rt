@@ -1,6 +1,8 @@
 //! Reads a day file from standard input and says whether it is accepted, and if not, why.
 //!
 //! All answers go to standard output; a refused file ends the program with status 1.
+#![tactic(auto)]
+
 use anyhow::anyhow;
 use dayfile::{AdmittedDay, DayRecord, Fault, LONGEST, Place, admit};
 use explanation::{explain, layer_name};

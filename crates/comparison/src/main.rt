@@ -1,4 +1,6 @@
 //! Runs the engine over the cases of the second calculation, and prints its answer to each in a line.
+#![tactic(auto)]
+
 mod answer;
 mod book;
 mod digest;

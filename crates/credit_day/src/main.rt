@@ -2,6 +2,8 @@
 //!
 //! Where the file or the day is refused, standard output has the refusal's number alone and standard error the place and the
 //! reason; the program then ends with status 1.
+#![tactic(auto)]
+
 mod refusal;
 mod show;
 mod task;

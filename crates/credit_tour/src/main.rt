@@ -3,6 +3,8 @@
 //!
 //! Without an argument the program prints the tour; with the words `examples DIRECTORY` it writes the example days that have
 //! their point in their credits into that directory.
+#![tactic(auto)]
+
 mod amounts;
 mod commitment;
 mod credit_notes;

@@ -13,6 +13,8 @@
 //!
 //! The way of the money: millicents of a market (`day_ahead`, `real_time`), brought to cents (`cents`), allotted to hours
 //! (`hours`), entered into pools (`pool`, `allocating`), divided over owners (`owners`), added up for the day (`crediting`).
+#![tactic(auto)]
+
 mod adding;
 mod allocating;
 mod allocation;

@@ -1,4 +1,6 @@
 //! The day file: one operating day's participants and Resources in blocks of 512 bytes.
+#![tactic(auto)]
+
 mod admitted;
 mod before;
 mod block;

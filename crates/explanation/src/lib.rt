@@ -3,6 +3,8 @@
 //! [`explain`] takes a refusal and the bytes of the file, and gives a [`Finding`] with plain values. Shown, a finding is
 //! one sentence, such as `the version (bytes 8 to 9) is 1000; it must be from 1 to 999`. [`first_misfit`] does the same for
 //! the events of a Resource, and [`PoolName`] shows a pool by its name.
+#![tactic(auto)]
+
 mod blocks;
 mod bytes;
 mod event_words;

@@ -2,6 +2,8 @@
 //!
 //! Without an argument the program prints the tour; with the words `examples DIRECTORY` it writes the small day and the
 //! damaged ones into that directory.
+#![tactic(auto)]
+
 mod damage;
 mod examples;
 mod records;

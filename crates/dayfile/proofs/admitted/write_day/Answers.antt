@@ -10,25 +10,25 @@ use Rattle.dayfile.specs.Days.{records, WritesDay}
 use Rattle.dayfile.proofs.FileLaws.{Passed, passed, accepted_none, records_again}
 use Rattle.dayfile.proofs.DayWrites.{day_refused, day_written, turned}
 use Rattle.dayfile.proofs.admitted.write_day.Goals as goal
-use Rattle.dayfile.proofs.admitted.write_day.Goals.{in-Some+in-ok-write-record, in-default}
+use Rattle.dayfile.proofs.admitted.write_day.Goals.{in-Some+in_ok-write_record, in_default}
 
 pub returns-then-out-day : goal.returns-then-out-day
 returns-then-out-day c =
     let f = c.args.day.now.file.now in
     record {
-      written-or-untouched = day_refused f c.args.out.now c.if-out-day.true;
-      file-again = refl;
-      records-are-the-file = records_again f c.args.day.now.bytes (passed f (accepted_none f c.args.day.now.kept));
+      written_or_untouched = day_refused f c.args.out.now c.if-out-day.true;
+      file_again = refl;
+      records_are_the_file = records_again f c.args.day.now.bytes (passed f (accepted_none f c.args.day.now.kept));
     }
 
-pub returns-in-err-write-record : goal.returns-in-err-write-record
-returns-in-err-write-record c =
+pub returns-in_err-write_record : goal.returns-in_err-write_record
+returns-in_err-write_record c =
     let f = c.args.day.now.file.now in
     let p = passed f (accepted_none f c.args.day.now.kept) in
     let l : c.loop-k.k < blocks c.args.day.now.file.now = omega (arith, c.loop-k-test.true, c.blocks-k-end.ensures) in
-    let t = turned f c.args.out.now c.loop-k.out c.write-record.new.out c.loop-k.k c.in-Some.record c.write-record.result c.args.day.now.bytes p l
-    c.if-out-day.false c.loop-k.invariant c.in-Some.ensures c.write-record.ensures.written-or-untouched in
-    let q = sym t.fine ∙ c.in-err-write-record.was in
+    let t = turned f c.args.out.now c.loop-k.out c.write_record.new.out c.loop-k.k c.in-Some.record c.write_record.result c.args.day.now.bytes p l
+    c.if-out-day.false c.loop-k.invariant c.in-Some.ensures c.write_record.ensures.written_or_untouched in
+    let q = sym t.fine ∙ c.in_err-write_record.was in
     let z : ◌≡◌ {A = ℕ} 0 1 = cc in absurd (omega arith)
 
 pub loop-k-init : goal.loop-k-init
@@ -40,12 +40,12 @@ loop-k-preserved c =
     let p = passed f (accepted_none f c.args.day.now.kept) in
     let l : c.loop-k.k < blocks c.args.day.now.file.now = omega (arith, c.loop-k-test.true, c.blocks-k-end.ensures) in
     elim c.match-record.branch [
-      | in-Some+in-ok-write-record w ↦ (
-          let t = turned f c.args.out.now c.loop-k.out w.write-record.new.out c.loop-k.k w.in-Some.record w.write-record.result c.args.day.now.bytes p l
-          c.if-out-day.false c.loop-k.invariant w.in-Some.ensures w.write-record.ensures.written-or-untouched in
+      | in-Some+in_ok-write_record w ↦ (
+          let t = turned f c.args.out.now c.loop-k.out w.write_record.new.out c.loop-k.k w.in-Some.record w.write_record.result c.args.day.now.bytes p l
+          c.if-out-day.false c.loop-k.invariant w.in-Some.ensures w.write_record.ensures.written_or_untouched in
           w.out-is ∙ t.front)
-      | in-default w ↦ (
-          let q = sym w.in-default.is ∙ c.record.ensures ∙ cond-true (ltb c.loop-k.k (blocks f)) (Some (record_of (block f c.loop-k.k))) None (lt-ltb c.loop-k.k (blocks f) l) in
+      | in_default w ↦ (
+          let q = sym w.in_default.is ∙ c.record.ensures ∙ cond-true (ltb c.loop-k.k (blocks f)) (Some (record_of (block f c.loop-k.k))) None (lt-ltb c.loop-k.k (blocks f) l) in
           let z : ◌≡◌ {A = ℕ} 0 1 = cc in absurd (omega arith))
     ]
 
@@ -56,7 +56,7 @@ returns c =
     let n : 512 * c.loop-k.k ≡ length c.args.day.now.file.now = omega (arith, p.whole, c.blocks-k-end.ensures) in
     let e = c.loop-k.invariant ∙ ap (λ i. take i f ++ drop i c.args.out.now) n in
     record {
-      written-or-untouched = day_written f c.args.out.now c.loop-k.out c.args.day.now.bytes p c.if-out-day.false e;
-      file-again = e ∙ ap (λ x. x ++ drop (length f) c.args.out.now) (take_all (length f) f (omega arith));
-      records-are-the-file = records_again f c.args.day.now.bytes p;
+      written_or_untouched = day_written f c.args.out.now c.loop-k.out c.args.day.now.bytes p c.if-out-day.false e;
+      file_again = e ∙ ap (λ x. x ++ drop (length f) c.args.out.now) (take_all (length f) f (omega arith));
+      records_are_the_file = records_again f c.args.day.now.bytes p;
     }

@@ -12,8 +12,8 @@ write-requires g c =
     let h = part_within c.loop-part.part-index (length c.args.parts.now) g.T.Part.width c.loop-part-test.true in
     omega (arith, h)
 
-pub overflow-add-p : goal.overflow-add-p
-overflow-add-p g c =
+pub overflow_add-p : goal.overflow_add-p
+overflow_add-p g c =
     let h = part_within c.loop-part.part-index (length c.args.parts.now) g.T.Part.width c.loop-part-test.true in
     search rules
 

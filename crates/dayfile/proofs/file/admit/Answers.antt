@@ -7,15 +7,15 @@ use Rattle.dayfile.proofs.RuleLaws.{ruled}
 use Rattle.dayfile.proofs.WellFormedLaws.{well_formed_only}
 use Rattle.dayfile.proofs.file.admit.Goals as goal
 
-pub returns-in-err-judge-file : goal.returns-in-err-judge-file
-returns-in-err-judge-file c =
+pub returns-in_err-judge_file : goal.returns-in_err-judge_file
+returns-in_err-judge_file c =
     let f = c.args.file.now in
-    let p = err_from_is_err_and c.from-residual.result c.from-residual.ensures.1 in
-    let v = sym c.in-err-judge-file.was ∙ c.judge-file.ensures in
-    rw (p.1, p.2) (record { verdict = v; first-broken-rule-told = subst (Ruled f) (sym v) (ruled f); accepted-just-if-well-formed = subst (WellFormedOnly f) (sym v) (well_formed_only f (λ i. (c.type-inv.file i).fits)); place-filled-or-kept = refl })
+    let p = err_from_is_err_and c.from_residual.result c.from_residual.ensures.1 in
+    let v = sym c.in_err-judge_file.was ∙ c.judge_file.ensures in
+    rw (p.1, p.2) (record { verdict = v; first_broken_rule_told = subst (Ruled f) (sym v) (ruled f); accepted_just_if_well_formed = subst (WellFormedOnly f) (sym v) (well_formed_only f (λ i. (c.type_inv.file i).fits)); place_filled_or_kept = refl })
 
 pub returns : goal.returns
 returns c =
     let f = c.args.file.now in
-    let v = sym c.in-ok-judge-file.was ∙ c.judge-file.ensures in
-    record { verdict = v; first-broken-rule-told = subst (Ruled f) (sym v) (ruled f); accepted-just-if-well-formed = subst (WellFormedOnly f) (sym v) (well_formed_only f (λ i. (c.type-inv.file i).fits)); place-filled-or-kept = refl }
+    let v = sym c.in_ok-judge_file.was ∙ c.judge_file.ensures in
+    record { verdict = v; first_broken_rule_told = subst (Ruled f) (sym v) (ruled f); accepted_just_if_well_formed = subst (WellFormedOnly f) (sym v) (well_formed_only f (λ i. (c.type_inv.file i).fits)); place_filled_or_kept = refl }

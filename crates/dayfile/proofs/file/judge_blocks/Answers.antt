@@ -16,29 +16,29 @@ loop-k-init c =
       omega (arith, ap (λ (b : Before). b.resources) s),
     )
 
-pub returns-in-err-judge : goal.returns-in-err-judge
-returns-in-err-judge c =
+pub returns-in_err-judge : goal.returns-in_err-judge
+returns-in_err-judge c =
     let f = c.args.file.now in
     let k = c.loop-k.k in
     let a = ap (λ b. answer (block_fault b k (block f k))) (sym c.loop-k.invariant.1)
-    ∙ ap (λ b. answer (block_fault c.loop-k.before k b)) (sym c.block-at-block.ensures.value)
-    ∙ sym c.judge.ensures ∙ c.in-err-judge.was in
-    let e = block_bad f k (blocks f) c.loop-k-test.true c.in-err-judge.field-0.0 (answer_err _ _ a) in
-    let p = err_from_is_err_and c.from-residual.result c.from-residual.ensures.1 in
-    rw (p.1, p.2) (sym (behind_bad f c.in-err-judge.field-0.0 (sym c.loop-k.invariant.0 ∙ e)))
+    ∙ ap (λ b. answer (block_fault c.loop-k.before k b)) (sym c.block_at-block.ensures.value)
+    ∙ sym c.judge.ensures ∙ c.in_err-judge.was in
+    let e = block_bad f k (blocks f) c.loop-k-test.true c.in_err-judge.field-0.0 (answer_err _ _ a) in
+    let p = err_from_is_err_and c.from_residual.result c.from_residual.ensures.1 in
+    rw (p.1, p.2) (sym (behind_bad f c.in_err-judge.field-0.0 (sym c.loop-k.invariant.0 ∙ e)))
 
 pub loop-k-preserved : goal.loop-k-preserved
 loop-k-preserved c =
     let f = c.args.file.now in
     let k = c.loop-k.k in
     let a = ap (λ b. answer (block_fault b k (block f k))) (sym c.loop-k.invariant.1)
-    ∙ ap (λ b. answer (block_fault c.loop-k.before k b)) (sym c.block-at-block.ensures.value)
-    ∙ sym c.judge.ensures ∙ c.in-ok-judge.was in
+    ∙ ap (λ b. answer (block_fault c.loop-k.before k b)) (sym c.block_at-block.ensures.value)
+    ∙ sym c.judge.ensures ∙ c.in_ok-judge.was in
     let n = c.note.ensures in (
       sym (block_good f k (blocks f) c.loop-k-test.true (answer_ok _ a)) ∙ c.loop-k.invariant.0,
-      n ∙ ap (after c.loop-k.before) c.block-at-block.ensures.value ∙ ap (λ b. after b (block f k)) c.loop-k.invariant.1 ∙ sym (standing_next f k),
-      omega (arith, ap (λ (b : Before). b.participants) n, after_participants c.loop-k.before c.block-at-block.result.now),
-      omega (arith, ap (λ (b : Before). b.resources) n, after_resources c.loop-k.before c.block-at-block.result.now),
+      n ∙ ap (after c.loop-k.before) c.block_at-block.ensures.value ∙ ap (λ b. after b (block f k)) c.loop-k.invariant.1 ∙ sym (standing_next f k),
+      omega (arith, ap (λ (b : Before). b.participants) n, after_participants c.loop-k.before c.block_at-block.result.now),
+      omega (arith, ap (λ (b : Before). b.resources) n, after_resources c.loop-k.before c.block_at-block.result.now),
     )
 
 pub returns : goal.returns

@@ -10,16 +10,16 @@ loop-k-init c =
     let z = weighed_none 0 in
     (c.told-once, c.told-often, λ j h. refl, omega arith, omega (arith, z), omega arith)
 
-pub overflow-add-often : goal.overflow-add-often
-overflow-add-often c =
+pub overflow_add-often : goal.overflow_add-often
+overflow_add-often c =
     let same = c.loop-k.invariant.2 c.loop-k.k (omega arith) in
     let here = get_or-le-sum_by (λ x. x) c.loop-k.often c.loop-k.k 0 (omega arith) in
     let step = sum_by_more (λ x. x) c.args.once.now c.loop-k.k 0 (omega arith) in
     let upto = sum_by-take-le (λ x. x) c.args.once.now (c.loop-k.k + 1) in
     search rules
 
-pub overflow-add-once : goal.overflow-add-once
-overflow-add-once c =
+pub overflow_add-once : goal.overflow_add-once
+overflow_add-once c =
     let here = get_or-le-sum_by (λ x. x) c.loop-k.once c.loop-k.k 0 (omega arith) in
     let step = sum_by_more (λ x. x) c.args.row.now c.loop-k.k 0 (omega arith) in
     let upto = sum_by-take-le (λ x. x) c.args.row.now (c.loop-k.k + 1) in

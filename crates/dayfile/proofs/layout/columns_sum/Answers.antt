@@ -14,17 +14,17 @@ upto : (once often : List ℕ) (k : ℕ) → k < length once → k < length ofte
 upto once often k h l f =
     omega (arith, weighed_more once k h, weighed_take_le once (k + 1), sum_by_more (λ x. x) often k 0 l, sum_by-take-le (λ x. x) often (k + 1))
 
-pub overflow-mul-total : goal.overflow-mul-total
-overflow-mul-total c = let u = upto c.args.once.now c.args.often.now c.loop-k.k (omega arith) (omega arith) c.requires in search rules
+pub overflow_mul-total : goal.overflow_mul-total
+overflow_mul-total c = let u = upto c.args.once.now c.args.often.now c.loop-k.k (omega arith) (omega arith) c.requires in search rules
 
-pub overflow-mul-total-in-loop-k : goal.overflow-mul-total-in-loop-k
-overflow-mul-total-in-loop-k c = let u = upto c.args.once.now c.args.often.now c.loop-k.k (omega arith) (omega arith) c.requires in search rules
+pub overflow_mul-total-in-loop-k : goal.overflow_mul-total-in-loop-k
+overflow_mul-total-in-loop-k c = let u = upto c.args.once.now c.args.often.now c.loop-k.k (omega arith) (omega arith) c.requires in search rules
 
-pub overflow-add-total-in-loop-k : goal.overflow-add-total-in-loop-k
-overflow-add-total-in-loop-k c = let u = upto c.args.once.now c.args.often.now c.loop-k.k (omega arith) (omega arith) c.requires in search rules
+pub overflow_add-total-in-loop-k : goal.overflow_add-total-in-loop-k
+overflow_add-total-in-loop-k c = let u = upto c.args.once.now c.args.often.now c.loop-k.k (omega arith) (omega arith) c.requires in search rules
 
-pub overflow-add-total-in-loop-k-2 : goal.overflow-add-total-in-loop-k-2
-overflow-add-total-in-loop-k-2 c = let u = upto c.args.once.now c.args.often.now c.loop-k.k (omega arith) (omega arith) c.requires in search rules
+pub overflow_add-total-in-loop-k-2 : goal.overflow_add-total-in-loop-k-2
+overflow_add-total-in-loop-k-2 c = let u = upto c.args.once.now c.args.often.now c.loop-k.k (omega arith) (omega arith) c.requires in search rules
 
 pub loop-k-preserved : goal.loop-k-preserved
 loop-k-preserved c =

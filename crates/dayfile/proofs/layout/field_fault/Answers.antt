@@ -19,7 +19,7 @@ loop-entry-preserved c =
     let rest = first_fault (drop (c.loop-entry.entry-index + 1) c.args.table.now) c.args.block.now in
     let step : c.if-not-holds.first ≡ earlier c.loop-entry.first here
     = elim c.if-not-holds.branch [
-      | then-not-holds w ↦ w.first-is ∙ w.earlier-of-first.ensures ∙ ap (earlier c.loop-entry.first) w.fault.ensures
+      | then-not-holds w ↦ w.first-is ∙ w.earlier_of-first.ensures ∙ ap (earlier c.loop-entry.first) w.fault.ensures
       | else-not-holds w ↦
           w.first-is ∙ sym (earlier_none c.loop-entry.first)
           ∙ ap (earlier c.loop-entry.first) (sym (none_from_not here (sym c.holds.ensures ∙ w.if-not-holds.false)))

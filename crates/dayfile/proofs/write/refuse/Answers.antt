@@ -3,7 +3,7 @@ use Rattle.dayfile.specs.Files.{answer}
 use Rattle.dayfile.specs.Writing.{record_owned}
 use Rattle.dayfile.proofs.Refusals.{found, refused_field, refused_owners, refused_room, unrefused, unowned}
 use Rattle.dayfile.proofs.write.refuse.Goals as goal
-use Rattle.dayfile.proofs.write.refuse.Goals.{in-Resource+else-not-kept, in-default-rec}
+use Rattle.dayfile.proofs.write.refuse.Goals.{in-Resource+else-not-kept, in_default-rec}
 
 pub returns-in-Some : goal.returns-in-Some
 returns-in-Some c =
@@ -14,27 +14,27 @@ returns-in-Some c =
 pub returns-then-not-kept : goal.returns-then-not-kept
 returns-then-not-kept c =
     let r = c.args.rec.now in
-    let f = found r c.args.block.now c.table_for.result.now None c.in-default.ensures c.table_for.ensures.table c.requires.1 in
+    let f = found r c.args.block.now c.table_for.result.now None c.in_default.ensures c.table_for.ensures.table c.requires.1 in
     record { value = sym (ap answer (refused_owners r c.args.room f (ap (record_owned 48) c.in-Resource.is ∙ sym c.if-not-kept.ensures))) }
 
 pub returns-then-room-lt512 : goal.returns-then-room-lt512
 returns-then-room-lt512 c =
     let r = c.args.rec.now in
-    let f = found r c.args.block.now c.table_for.result.now None c.in-default.ensures c.table_for.ensures.table c.requires.1 in
+    let f = found r c.args.block.now c.table_for.result.now None c.in_default.ensures c.table_for.ensures.table c.requires.1 in
     let o : record_owned 48 c.args.rec.now ≡ true =
     elim c.match-rec.branch [
       | in-Resource+else-not-kept w ↦ ap (record_owned 48) w.in-Resource.is ∙ sym w.if-not-kept.ensures
-      | in-default-rec w ↦ unowned 48 c.args.rec.now w.in-default-rec.not-Resource
+      | in_default-rec w ↦ unowned 48 c.args.rec.now w.in_default-rec.not-Resource
     ] in
     record { value = sym (ap answer (refused_room r c.args.room f o c.if-room-lt512.true)) }
 
 pub returns-else-room-lt512 : goal.returns-else-room-lt512
 returns-else-room-lt512 c =
     let r = c.args.rec.now in
-    let f = found r c.args.block.now c.table_for.result.now None c.in-default.ensures c.table_for.ensures.table c.requires.1 in
+    let f = found r c.args.block.now c.table_for.result.now None c.in_default.ensures c.table_for.ensures.table c.requires.1 in
     let o : record_owned 48 c.args.rec.now ≡ true =
     elim c.match-rec.branch [
       | in-Resource+else-not-kept w ↦ ap (record_owned 48) w.in-Resource.is ∙ sym w.if-not-kept.ensures
-      | in-default-rec w ↦ unowned 48 c.args.rec.now w.in-default-rec.not-Resource
+      | in_default-rec w ↦ unowned 48 c.args.rec.now w.in_default-rec.not-Resource
     ] in
     record { value = sym (ap answer (unrefused r c.args.room f o c.if-room-lt512.false)) }

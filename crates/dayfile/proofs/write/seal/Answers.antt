@@ -2,4 +2,4 @@ use Rattle.dayfile.proofs.Encodings.{sealed_is}
 use Rattle.dayfile.proofs.write.seal.Goals as goal
 
 pub returns : goal.returns
-returns c = sealed_is c.args.block.now c.write-number.new.block c.check-of-check.result c.requires c.write-number.ensures.written c.check-of-check.ensures
+returns c = sealed_is c.args.block.now c.write_number.new.block c.check_of-check.result c.requires c.write_number.ensures.written c.check_of-check.ensures

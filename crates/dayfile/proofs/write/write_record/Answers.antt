@@ -13,37 +13,37 @@ refused_back : (P : Unit {0} → Type 0) (a : Result (Unit {0}) Fault) (f : Faul
 refused_back P (Ok x) f e = let z : ◌≡◌ {A = ℕ} 0 1 = cc in absurd (omega arith)
 refused_back P (Err g) f e = tt
 
-pub returns-in-err-refuse : goal.returns-in-err-refuse
-returns-in-err-refuse c =
+pub returns-in_err-refuse : goal.returns-in_err-refuse
+returns-in_err-refuse c =
     let r = c.args.rec.now in
     let was = c.args.out.now in
-    let f = c.in-err-refuse.field-0.0 in
-    let p = err_from_is_err_and c.from-residual.result c.from-residual.ensures.1 in
-    let e = answer_err (unwritten r (length was)) f c.in-err-refuse.ensures.value in
+    let f = c.in_err-refuse.field-0.0 in
+    let p = err_from_is_err_and c.from_residual.result c.from_residual.ensures.1 in
+    let e = answer_err (unwritten r (length was)) f c.in_err-refuse.ensures.value in
     let w = c.compose-block.ensures.fits in
     let v = p.1 ∙ ap Err p.2 in
     record {
-      written-or-untouched = subst (λ a. Writes r was a was) (sym v) (writes_not r was f e);
-      refused-just-for = subst (WrittenOnly r (length was)) (ap answer e ∙ sym v) (written_only r (length was) w);
-      reads_back = refused_back _ c.from-residual.result f v;
-      any-record-decodes = reads_back r w;
+      written_or_untouched = subst (λ a. Writes r was a was) (sym v) (writes_not r was f e);
+      refused_just_for = subst (WrittenOnly r (length was)) (ap answer e ∙ sym v) (written_only r (length was) w);
+      reads_back = refused_back _ c.from_residual.result f v;
+      any_record_decodes = reads_back r w;
     }
 
 pub overwrite-requires : goal.overwrite-requires
 overwrite-requires c =
     let r = c.args.rec.now in
     let room = length c.args.out.now in
-    (c.compose-block.ensures.len, (written r room (answer_ok (unwritten r room) c.in-ok-refuse.ensures.value)).ample)
+    (c.compose-block.ensures.len, (written r room (answer_ok (unwritten r room) c.in_ok-refuse.ensures.value)).ample)
 
 pub returns : goal.returns
 returns c =
     let r = c.args.rec.now in
     let was = c.args.out.now in
     let w = c.compose-block.ensures.fits in
-    let e = answer_ok (unwritten r (length was)) c.in-ok-refuse.ensures.value in
+    let e = answer_ok (unwritten r (length was)) c.in_ok-refuse.ensures.value in
     record {
-      written-or-untouched = writes_so r was c.overwrite.new.out e (c.overwrite.ensures ∙ ap (λ t. t ++ drop 512 was) c.compose-block.ensures.value);
-      refused-just-for = subst (WrittenOnly r (length was)) (ap answer e) (written_only r (length was) w);
+      written_or_untouched = writes_so r was c.overwrite.new.out e (c.overwrite.ensures ∙ ap (λ t. t ++ drop 512 was) c.compose-block.ensures.value);
+      refused_just_for = subst (WrittenOnly r (length was)) (ap answer e) (written_only r (length was) w);
       reads_back = written_back r was c.overwrite.new.out w ((written_only r (length was) w).written.0 (ap answer e)).0 (c.overwrite.ensures ∙ ap (λ t. t ++ drop 512 was) c.compose-block.ensures.value);
-      any-record-decodes = reads_back r w;
+      any_record_decodes = reads_back r w;
     }

@@ -7,13 +7,13 @@ small i b l h = let k : i + 1 ≤ 508 = omega arith in let m : b ≤ 255 = omega
 
 pub overflow-add-sum-in-loop-i : goal.overflow-add-sum-in-loop-i
 overflow-add-sum-in-loop-i c =
-    let s = small c.loop-i.i (get_or c.args.block.now c.loop-i.i 0) (omega arith) (c.type-inv.block c.loop-i.i).fits in
+    let s = small c.loop-i.i (get_or c.args.block.now c.loop-i.i 0) (omega arith) (c.type_inv.block c.loop-i.i).fits in
     let t : c.loop-i.i < 508 = omega arith in
     search rules
 
 pub loop-i-preserved : goal.loop-i-preserved
 loop-i-preserved c =
-    let s = small c.loop-i.i (get_or c.args.block.now c.loop-i.i 0) (omega arith) (c.type-inv.block c.loop-i.i).fits in
+    let s = small c.loop-i.i (get_or c.args.block.now c.loop-i.i 0) (omega arith) (c.type_inv.block c.loop-i.i).fits in
     let e = weighed_more 508 c.args.block.now c.loop-i.i (omega arith) in
     (omega (arith, e), omega (arith, s))
 

@@ -22,9 +22,9 @@ bytes_all [] e i = omega arith
 bytes_all (b ∷ bs) e zero = ltb-true b 256 (and_parts (ltb b 256) (all_bytes bs) e).0
 bytes_all (b ∷ bs) e (suc i) = bytes_all bs (and_parts (ltb b 256) (all_bytes bs) e).1 i
 
-pub invariant-of-result : goal.invariant-of-result
+pub invariant_of-result : goal.invariant_of-result
 unfolding workings
-invariant-of-result c = (refl, (bytes_all (flat_map encode built_in) refl, tt))
+invariant_of-result c = record { kept = refl; bytes = bytes_all (flat_map encode built_in) refl }
 
 pub returns : goal.returns
 unfolding workings

@@ -8,4 +8,4 @@ pub returns : goal.returns
 returns c =
     let d = c.args.self.now in
     let a = ap answer (accepted_none d.file.now d.kept) in
-    record { value = refl; accepted = d.kept; well-formed = accepted_formed d.file.now d.bytes a; formed = formed d.file.now d.bytes a }
+    record { value = refl; accepted = d.kept; well_formed = accepted_formed d.file.now d.bytes a; formed = formed d.file.now d.bytes a }

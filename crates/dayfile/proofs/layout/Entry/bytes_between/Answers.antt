@@ -10,11 +10,11 @@ loop-i-init c = (fields_none c.args.self.now c.args.block.now, omega (arith, zer
 
 pub bounds-block-at : goal.bounds-block-at
 bounds-block-at c =
-    let h = field_inside c.args.self.now c.loop-i.-i c.loop-i.at (length c.args.block.now) c.requires.0 c.loop-i-test.true c.loop-i.invariant.1 c.requires.1.0 in
+    let h = field_inside c.args.self.now c.loop-i._i c.loop-i.at (length c.args.block.now) c.requires.0 c.loop-i-test.true c.loop-i.invariant.1 c.requires.1.0 in
     omega (arith, h)
 
-pub overflow-add-at : goal.overflow-add-at
-overflow-add-at c = let s = sized_strides c.args.self.now c.loop-i.-i c.requires.0 c.loop-i-test.true in search rules
+pub overflow_add-at : goal.overflow_add-at
+overflow_add-at c = let s = sized_strides c.args.self.now c.loop-i._i c.requires.0 c.loop-i-test.true in search rules
 
 pub loop-i-preserved : goal.loop-i-preserved
 loop-i-preserved c =
@@ -22,7 +22,7 @@ loop-i-preserved c =
     let b = c.args.block.now in
     let n = get_or c.args.block.now c.loop-i.at 0 in
     let got = sym (value_one c.loop-i.at b) ∙ ap (λ w. value c.loop-i.at w b) (sym c.requires.1.1.0) in (
-      fields_more e c.loop-i.-i c.loop-i.at n b c.loop-i.bad _ c.loop-i.invariant.0 c.loop-i.invariant.1 got
+      fields_more e c.loop-i._i c.loop-i.at n b c.loop-i.bad _ c.loop-i.invariant.0 c.loop-i.invariant.1 got
           (outside_whole e.limits c.args.least c.args.most n c.requires.1.1.1),
-      omega (arith, add_one_mul c.loop-i.-i c.args.self.now.stride),
+      omega (arith, add_one_mul c.loop-i._i c.args.self.now.stride),
     )

@@ -9,7 +9,7 @@ returns c =
     let o = c.args.self.now in
     record {
       written =
-          half_and_word xs c.write-number.new.block c.write-number-2.new.block c.args.at o.place o.parts c.requires
-          (c.write-number.ensures.written ∙ ap (λ n. laid xs c.args.at (digits 2 n)) c.half.ensures.same) c.write-number-2.ensures.written;
-      sound = (c.half.ensures.sound, c.write-number-2.ensures.sound);
+          half_and_word xs c.write_number.new.block c.write_number-2.new.block c.args.at o.place o.parts c.requires
+          (c.write_number.ensures.written ∙ ap (λ n. laid xs c.args.at (digits 2 n)) c.half.ensures.same) c.write_number-2.ensures.written;
+      sound = (c.half.ensures.sound, c.write_number-2.ensures.sound);
     }

@@ -11,8 +11,8 @@ returns c =
     let b = c.bits.ensures.same ∙ ap (of_z w32) (to_z-of_z w32 h.lmp f) in
     record {
       written =
-          three_words c.args.block.now c.write-number.new.block c.write-number-2.new.block c.write-number-3.new.block c.args.at
-          h.dispatch_kwh h.metered_kwh (of_z w32 h.lmp) c.requires c.write-number.ensures.written c.write-number-2.ensures.written
-          (c.write-number-3.ensures.written ∙ ap (λ n. laid c.write-number-2.new.block (c.args.at + 8) (digits 4 n)) b);
-      sound = (c.write-number.ensures.sound, c.write-number-2.ensures.sound, f);
+          three_words c.args.block.now c.write_number.new.block c.write_number-2.new.block c.write_number-3.new.block c.args.at
+          h.dispatch_kwh h.metered_kwh (of_z w32 h.lmp) c.requires c.write_number.ensures.written c.write_number-2.ensures.written
+          (c.write_number-3.ensures.written ∙ ap (λ n. laid c.write_number-2.new.block (c.args.at + 8) (digits 4 n)) b);
+      sound = (c.write_number.ensures.sound, c.write_number-2.ensures.sound, f);
     }

@@ -7,7 +7,7 @@ returns c =
     let l : length c.args.self.now.loads ≡ 8 = search rules in
     record {
       bytes =
-          participant_filled c.args.self.now c.args.block.now _ c.write-number.new.block c.write-parts.new.block c.write-number-2.new.block c.write-number-3.new.block l c.requires refl
-          c.write-number.ensures.written c.write-parts.ensures.written c.write-number-2.ensures.written c.write-number-3.ensures.written;
-      fits = (c.write-number.ensures.sound, l, c.write-parts.ensures.sound, c.write-number-2.ensures.sound, c.write-number-3.ensures.sound);
+          participant_filled c.args.self.now c.args.block.now _ c.write_number.new.block c.write_parts.new.block c.write_number-2.new.block c.write_number-3.new.block l c.requires refl
+          c.write_number.ensures.written c.write_parts.ensures.written c.write_number-2.ensures.written c.write_number-3.ensures.written;
+      fits = (c.write_number.ensures.sound, l, c.write_parts.ensures.sound, c.write_number-2.ensures.sound, c.write_number-3.ensures.sound);
     }

@@ -9,7 +9,7 @@ returns c =
     let f : length c.args.self.now.flags ≡ 24 = search rules in
     record {
       bytes =
-          real_time_filled c.args.self.now c.args.block.now _ c.write-number.new.block c.write-number-2.new.block c.write-parts.new.block c.write-parts-2.new.block c.write-parts-3.new.block h e f c.requires refl
-          c.write-number.ensures.written c.write-number-2.ensures.written c.write-parts.ensures.written c.write-parts-2.ensures.written c.write-parts-3.ensures.written;
-      fits = (c.write-number.ensures.sound, c.write-number-2.ensures.sound, h, c.write-parts.ensures.sound, e, f);
+          real_time_filled c.args.self.now c.args.block.now _ c.write_number.new.block c.write_number-2.new.block c.write_parts.new.block c.write_parts-2.new.block c.write_parts-3.new.block h e f c.requires refl
+          c.write_number.ensures.written c.write_number-2.ensures.written c.write_parts.ensures.written c.write_parts-2.ensures.written c.write_parts-3.ensures.written;
+      fits = (c.write_number.ensures.sound, c.write_number-2.ensures.sound, h, c.write_parts.ensures.sound, e, f);
     }
