@@ -10,8 +10,8 @@ loop-hour-preserved c =
     let x = c.args.unit.now in
     let hours = c.loop-hour.hours in
     let n = c.loop-hour.hour in (
-      length-set hours n c.hour-row.result ∙ c.loop-hour.invariant.0,
-      subst (λ r. (h : ℕ) → h < n + 1 → get_or (set hours n r) h no_amounts ≡ by_pool (cell x h)) (sym c.hour-row.ensures)
+      length-set hours n c.hour_row.result ∙ c.loop-hour.invariant.0,
+      subst (λ r. (h : ℕ) → h < n + 1 → get_or (set hours n r) h no_amounts ≡ by_pool (cell x h)) (sym c.hour_row.ensures)
           (fill_by_more (λ h. by_pool (cell x h)) hours n no_amounts (omega (arith, c.loop-hour.invariant.0, c.loop-hour-test.true)) c.loop-hour.invariant.1),
     )
 

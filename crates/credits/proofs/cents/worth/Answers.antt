@@ -14,8 +14,8 @@ same c =
     let p : to_z w64 (of_z w64 c.from.result) ≡ c.args.price = omega (arith, ints) in
     let k : to_z w64 (of_z w64 c.args.kwh) ≡ c.args.kwh = omega (arith, ints) in cc
 
-pub overflow-mul-result : goal.overflow-mul-result
-overflow-mul-result c = subst (SFits w64) (sym (same c)) (fits c)
+pub overflow_mul-result : goal.overflow_mul-result
+overflow_mul-result c = subst (SFits w64) (sym (same c)) (fits c)
 
 pub returns : goal.returns
 returns c =

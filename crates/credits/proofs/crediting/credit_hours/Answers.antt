@@ -15,16 +15,16 @@ loop-hour-init c =
     let g = c.args.unit.now.resource in
     let n : g.owner_count - 0 ≡ g.owner_count = omega arith in (
       c.requires.rows.0,
-      ap (λ os. map (λ o. o.place) (take (g.owner_count - 0) os)) c.owners-of-slots.ensures
+      ap (λ os. map (λ o. o.place) (take (g.owner_count - 0) os)) c.owners_of-slots.ensures
           ∙ first_owners (λ o. o.place) (λ o. o.place) (λ o. refl) (g.owner_count - 0) g.owners ∙ ap (λ k. map (λ o. o.place) (take k g.owners)) n,
-      ap (λ os. map (λ o. o.parts) (take (g.owner_count - 0) os)) c.owners-of-slots.ensures
+      ap (λ os. map (λ o. o.parts) (take (g.owner_count - 0) os)) c.owners_of-slots.ensures
           ∙ first_owners (λ o. o.parts) (λ o. o.parts) (λ o. refl) (g.owner_count - 0) g.owners ∙ ap (λ k. map (λ o. o.parts) (take k g.owners)) n,
       λ most b i p. omega (arith, b i p),
       λ i p _ _ _. omega arith,
     )
 
-pub share-out-requires : goal.share-out-requires
-share-out-requires c =
+pub share_out-requires : goal.share_out-requires
+share_out-requires c =
     record {
       pool = c.day_ahead_pool.ensures.from_one;
       rows = c.loop-hour.invariant.0;
@@ -35,14 +35,14 @@ share-out-requires c =
       );
     }
 
-pub share-out-requires-in-loop-hour : goal.share-out-requires-in-loop-hour
-share-out-requires-in-loop-hour c =
+pub share_out-requires-in-loop-hour : goal.share_out-requires-in-loop-hour
+share_out-requires-in-loop-hour c =
     let before = c.loop-hour.invariant in
-    let first = c.share-out.ensures in
+    let first = c.share_out.ensures in
     record {
       pool = c.real_time_pool.ensures.from_one;
       rows = first.wide;
-      owners = owners_fit c.args.unit.now.resource c.share-out.new.owners c.requires.resource.0.resource (first.same_places ∙ before.1) (first.same_parts ∙ before.2);
+      owners = owners_fit c.args.unit.now.resource c.share_out.new.owners c.requires.resource.0.resource (first.same_places ∙ before.1) (first.same_parts ∙ before.2);
       small = (
         λ i p. omega (arith, first.grown _ (before.3 100000000000000000 c.requires.rows.1) i p),
         getD_small 100000000000 c.args.cents.now.real_time c.loop-hour.hour c.requires.resource.1.real_time_small,
@@ -54,8 +54,8 @@ loop-hour-preserved c =
     let x = c.args.unit.now in
     let h = c.loop-hour.hour in
     let before = c.loop-hour.invariant in
-    let first = c.share-out.ensures in
-    let second = c.share-out-in-loop-hour.ensures in (
+    let first = c.share_out.ensures in
+    let second = c.share_out-in-loop-hour.ensures in (
       second.wide,
       second.same_places ∙ first.same_places ∙ before.1,
       second.same_parts ∙ first.same_parts ∙ before.2,

@@ -6,13 +6,13 @@ use Rattle.dayfile.specs.Files.{answer as refused_by}
 use Rattle.credits.proofs.Days.{day_short}
 use Rattle.credits.proofs.DayCredits.{CreditedTo, block_told, refused_none, refused_some, credited_none, credited_same, credited_more, credited_stop, credited_all}
 use Rattle.credits.proofs.crediting.credit_resources.Goals as goal
-use Rattle.credits.proofs.crediting.credit_resources.Goals.{in-Some+in-ok-credit-resource, in-default}
+use Rattle.credits.proofs.crediting.credit_resources.Goals.{in-Some+in_ok-credit_resource, in_default}
 
 pub loop-k-init : goal.loop-k-init
 loop-k-init c = credited_none c.args.day.now.file.now c.args.amounts.now c.requires.0 c.requires.1
 
-pub credit-resource-requires : goal.credit-resource-requires
-credit-resource-requires c =
+pub credit_resource-requires : goal.credit_resource-requires
+credit_resource-requires c =
     let f = c.args.day.now.file.now in
     let told = c.in-Some.ensures in
     let few = day_short c.args.day.now in
@@ -26,29 +26,29 @@ loop-k-preserved c =
     let f = c.args.day.now.file.now in
     let k = c.loop-k.k in
     let l : k < blocks f = omega (arith, c.loop-k-test.true, c.blocks-k-end.ensures) in
-    elim c.match-resource-at.branch [
-      | in-Some+in-ok-credit-resource w ↦
+    elim c.match-resource_at.branch [
+      | in-Some+in_ok-credit_resource w ↦
           subst (CreditedTo f (k + 1)) (sym w.amounts-is)
-          (credited_more f c.loop-k.amounts k w.in-Some.unit w.credit-resource.new.amounts l w.in-Some.ensures.value
-          (refused_none _ (sym w.credit-resource.ensures.answer ∙ w.in-ok-credit-resource.was))
-          w.credit-resource.ensures.wide w.credit-resource.ensures.grown w.in-ok-credit-resource.ensures.credited c.loop-k.invariant)
-      | in-default w ↦ subst (CreditedTo f (k + 1)) (sym w.amounts-is) (credited_same f c.loop-k.amounts k l (sym w.in-default.is ∙ c.resource-at.ensures.value) c.loop-k.invariant)
+          (credited_more f c.loop-k.amounts k w.in-Some.unit w.credit_resource.new.amounts l w.in-Some.ensures.value
+          (refused_none _ (sym w.credit_resource.ensures.answer ∙ w.in_ok-credit_resource.was))
+          w.credit_resource.ensures.wide w.credit_resource.ensures.grown w.in_ok-credit_resource.ensures.credited c.loop-k.invariant)
+      | in_default w ↦ subst (CreditedTo f (k + 1)) (sym w.amounts-is) (credited_same f c.loop-k.amounts k l (sym w.in_default.is ∙ c.resource_at.ensures.value) c.loop-k.invariant)
     ]
 
-pub returns-in-err-credit-resource : goal.returns-in-err-credit-resource
-returns-in-err-credit-resource c =
+pub returns-in_err-credit_resource : goal.returns-in_err-credit_resource
+returns-in_err-credit_resource c =
     let f = c.args.day.now.file.now in
     let k = c.loop-k.k in
     let few = day_short c.args.day.now in
     let l : k < blocks f = omega (arith, c.loop-k-test.true, c.blocks-k-end.ensures) in
-    let p = err_from_is_err_and c.from-residual.result c.from-residual.ensures.1 in
+    let p = err_from_is_err_and c.from_residual.result c.from_residual.ensures.1 in
     let stop = credited_stop f c.loop-k.amounts k c.in-Some.unit _ l c.in-Some.ensures.value
-    (refused_some _ _ (sym c.credit-resource.ensures.answer ∙ c.in-err-credit-resource.was)) c.loop-k.invariant in
+    (refused_some _ _ (sym c.credit_resource.ensures.answer ∙ c.in_err-credit_resource.was)) c.loop-k.invariant in
     record {
       answer = p.1 ∙ ap Err p.2 ∙ sym (ap refused_by stop);
-      wide = c.credit-resource.ensures.wide;
-      below = λ i p. omega (arith, c.credit-resource.ensures.grown (k * 4800000000000) c.loop-k.invariant.below i p);
-      credited = MatchResult-from_err _ _ _ c.from-residual.ensures.0 (λ _. tt);
+      wide = c.credit_resource.ensures.wide;
+      below = λ i p. omega (arith, c.credit_resource.ensures.grown (k * 4800000000000) c.loop-k.invariant.below i p);
+      credited = MatchResult-from_err _ _ _ c.from_residual.ensures.0 (λ _. tt);
     }
 
 pub returns : goal.returns

@@ -19,8 +19,8 @@ count c =
     let n = header_tells f w c.header-count.result c.header-count.ensures.first_record in
     (n, omega (arith, participants_few f w))
 
-pub number-at-requires : goal.number-at-requires
-number-at-requires c = omega (arith, count (goal.at.number-at-requires c).After-header-count, c.loop-place-test.true)
+pub number_at-requires : goal.number_at-requires
+number_at-requires c = omega (arith, count (goal.at.number_at-requires c).After-header-count, c.loop-place-test.true)
 
 pub bounds-participants-place : goal.bounds-participants-place
 bounds-participants-place c = omega (arith, count (goal.at.bounds-participants-place c).After-header-count, c.loop-place.invariant.0)
@@ -31,7 +31,7 @@ loop-place-preserved c =
     let place = c.loop-place.place in
     let inside : place < length ns = omega (arith, count (goal.at.loop-place-preserved c).After-header-count, c.loop-place.invariant.0) in (
       length-set ns place _ ∙ c.loop-place.invariant.0,
-      below_more _ _ (λ k l. get_or-set_other ns place k _ 0 (λ e. omega arith) ∙ c.loop-place.invariant.1 k l) (get_or-set_same ns place _ 0 inside ∙ c.number-at.ensures),
+      below_more _ _ (λ k l. get_or-set_other ns place k _ 0 (λ e. omega arith) ∙ c.loop-place.invariant.1 k l) (get_or-set_same ns place _ 0 inside ∙ c.number_at.ensures),
       λ k l. get_or-set_other ns place k _ 0 (λ e. omega arith) ∙ c.loop-place.invariant.2 k (omega arith),
     )
 

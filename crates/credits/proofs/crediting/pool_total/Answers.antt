@@ -6,15 +6,15 @@ use Rattle.credits.proofs.Totals.{total_more}
 use Rattle.credits.proofs.crediting.pool_total.Goals as goal
 
 -- what was read is the amount
-read : (c : goal.After-in-pool-total) → c.in-pool-total.result ≡ amount c.args.amounts.now c.loop-place.place c.args.pool
-read c = c.in-pool-total.ensures ∙ cond-true _ _ _ (lt-ltb 0 c.args.pool c.requires.0)
+read : (c : goal.After-in_pool-total) → c.in_pool-total.result ≡ amount c.args.amounts.now c.loop-place.place c.args.pool
+read c = c.in_pool-total.ensures ∙ cond-true _ _ _ (lt-ltb 0 c.args.pool c.requires.0)
 
 pub loop-place-init : goal.loop-place-init
 unfolding total
 loop-place-init c = (refl, omega arith)
 
-pub overflow-add-total : goal.overflow-add-total
-overflow-add-total c = omega (arith, read c, c.requires.1.1.1 c.loop-place.place c.args.pool)
+pub overflow_add-total : goal.overflow_add-total
+overflow_add-total c = omega (arith, read c, c.requires.1.1.1 c.loop-place.place c.args.pool)
 
 pub loop-place-preserved : goal.loop-place-preserved
 loop-place-preserved c = (

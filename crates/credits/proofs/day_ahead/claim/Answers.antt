@@ -8,9 +8,9 @@ use Rattle.credits.proofs.Allots.{no_share}
 use Rattle.credits.proofs.Worths.{running_fits, running_back, running_within, net_none, net_more}
 use Rattle.credits.proofs.day_ahead.claim.Goals as goal
 
-pub overflow-add-sum : goal.overflow-add-sum
-overflow-add-sum c =
-    running_fits (1000000000000 * c.loop-hour.hour) 1000000000000 _ c.hour-amount-sum.result (omega arith) c.loop-hour.invariant.1 c.hour-amount-sum.ensures.small
+pub overflow_add-sum : goal.overflow_add-sum
+overflow_add-sum c =
+    running_fits (1000000000000 * c.loop-hour.hour) 1000000000000 _ c.hour_amount-sum.result (omega arith) c.loop-hour.invariant.1 c.hour_amount-sum.ensures.small
 
 pub loop-hour-init : goal.loop-hour-init
 loop-hour-init c = (net_none (day_ahead_hour c.args.resource.now), (omega (arith, ints), omega (arith, ints)), λ k l. absurd (omega arith))
@@ -19,13 +19,13 @@ pub loop-hour-preserved : goal.loop-hour-preserved
 loop-hour-preserved c =
     let g = c.args.resource.now in
     let h = c.loop-hour.hour in
-    let x = c.hour-amount-sum.result in
-    let within = running_within (1000000000000 * h) 1000000000000 _ x (omega arith) c.loop-hour.invariant.1 c.hour-amount-sum.ensures.small in (
-      running_back (1000000000000 * h) 1000000000000 _ x (omega arith) c.loop-hour.invariant.1 c.hour-amount-sum.ensures.small
-          ∙ ap (λ z. z +ℤ x) c.loop-hour.invariant.0 ∙ ap (λ z. net (day_ahead_hour g) h +ℤ z) c.hour-amount-sum.ensures.value ∙ sym (net_more (day_ahead_hour g) h),
+    let x = c.hour_amount-sum.result in
+    let within = running_within (1000000000000 * h) 1000000000000 _ x (omega arith) c.loop-hour.invariant.1 c.hour_amount-sum.ensures.small in (
+      running_back (1000000000000 * h) 1000000000000 _ x (omega arith) c.loop-hour.invariant.1 c.hour_amount-sum.ensures.small
+          ∙ ap (λ z. z +ℤ x) c.loop-hour.invariant.0 ∙ ap (λ z. net (day_ahead_hour g) h +ℤ z) c.hour_amount-sum.ensures.value ∙ sym (net_more (day_ahead_hour g) h),
       (omega (arith, ints), omega (arith, ints)),
       subst (λ b. (k : ℕ) → k < h + 1 → get_or (set c.loop-hour.hours h (record { shares = b; kwh = cleared g h; cents = 0 })) k no_share ≡ day_ahead_share g k)
-          (sym c.is-scheduled.ensures)
+          (sym c.is_scheduled.ensures)
           (fill_by_more (day_ahead_share g) c.loop-hour.hours h no_share (omega (arith, c.requires.1)) c.loop-hour.invariant.2),
     )
 

@@ -22,7 +22,7 @@ pub excess-requires : goal.excess-requires
 excess-requires c =
     let x = c.worth-cost.ensures.small in
     let y = c.worth-value.ensures.small in
-    (omega (arith, c.to-millicents-fees.ensures, c.start-up.ensures.small, c.requires.1.no_load), (omega (arith, ints), (omega (arith, ints), (omega (arith, ints), omega (arith, ints)))))
+    (omega (arith, c.to_millicents-fees.ensures, c.start_up.ensures.small, c.requires.1.no_load), (omega (arith, ints), (omega (arith, ints), (omega (arith, ints), omega (arith, ints)))))
 
 pub returns : goal.returns
 returns c =
@@ -38,14 +38,14 @@ returns c =
     let cost = simp to_z-of_z at c.worth-cost.ensures.value in
     let value = simp to_z-of_z at c.worth-value.ensures.value in
     let whole = simp to_z-of_z at c.excess.ensures.value in
-    let fees : c.to-millicents-fees.result ≡ millicents (g.no_load_cents + start_fee g h) =
-    c.to-millicents-fees.ensures ∙ ap (λ n. millicents (g.no_load_cents + n)) c.start-up.ensures.value in
+    let fees : c.to_millicents-fees.result ≡ millicents (g.no_load_cents + start_fee g h) =
+    c.to_millicents-fees.ensures ∙ ap (λ n. millicents (g.no_load_cents + n)) c.start_up.ensures.value in
     record {
       value =
           to_z-of_z w64 c.excess.result fe ∙ whole
-          ∙ ap (λ z. (z +ℤ pos c.to-millicents-fees.result) -ℤ c.worth-value.result) (cost ∙ ap (λ z. price g h *ℤ z) c.from-kwh.ensures)
+          ∙ ap (λ z. (z +ℤ pos c.to_millicents-fees.result) -ℤ c.worth-value.result) (cost ∙ ap (λ z. price g h *ℤ z) c.from-kwh.ensures)
           ∙ ap (λ n. (price g h *ℤ pos (cleared g h) +ℤ pos n) -ℤ c.worth-value.result) fees
           ∙ ap (λ z. (price g h *ℤ pos (cleared g h) +ℤ pos (millicents (g.no_load_cents + start_fee g h))) -ℤ z) (value ∙ ap (λ z. day_ahead_lmp g h *ℤ z) c.from-kwh.ensures)
-          ∙ sym (cond-true (scheduled g h) _ (pos 0) (sym c.is-scheduled.ensures ∙ c.if-not-is-scheduled.false));
+          ∙ sym (cond-true (scheduled g h) _ (pos 0) (sym c.is_scheduled.ensures ∙ c.if-not-is_scheduled.false));
       small = (omega (arith, ints), omega (arith, ints));
     }

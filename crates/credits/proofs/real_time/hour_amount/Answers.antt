@@ -9,7 +9,7 @@ use Rattle.credits.proofs.real_time.hour_amount.Goals as goal
 pub beyond-requires : goal.beyond-requires
 beyond-requires c =
     let m = (figures_kept c.requires.1.1 c.args.hour c.requires.0).metered in
-    (omega (arith, c.kwh-paid.ensures), cleared_kept c.requires.1.0 c.args.hour c.requires.0)
+    (omega (arith, c.kwh_paid.ensures), cleared_kept c.requires.1.0 c.args.hour c.requires.0)
 
 pub beyond-requires-2 : goal.beyond-requires-2
 beyond-requires-2 c =
@@ -31,7 +31,7 @@ pub excess-requires : goal.excess-requires
 excess-requires c =
     let x = c.worth-cost.ensures.small in
     let y = c.worth-value.ensures.small in
-    (omega (arith, c.fee-unless-cleared-no-load.ensures.small, c.requires.1.0.no_load), (omega (arith, ints), (omega (arith, ints), (omega (arith, ints), omega (arith, ints)))))
+    (omega (arith, c.fee_unless_cleared-no_load.ensures.small, c.requires.1.0.no_load), (omega (arith, ints), (omega (arith, ints), (omega (arith, ints), omega (arith, ints)))))
 
 pub returns : goal.returns
 returns c =
@@ -51,9 +51,9 @@ returns c =
     let whole = simp to_z-of_z at c.excess.ensures.value in
     record {
       value = to_z-of_z w64 c.excess.result fe ∙ whole
-          ∙ ap (λ z. (z +ℤ pos c.fee-unless-cleared-no-load.result) -ℤ c.worth-value.result)
-          (cost ∙ ap (λ z. price g h *ℤ z) (c.beyond.ensures.value ∙ ap (λ n. pos n -ℤ pos (cleared g h)) c.kwh-paid.ensures))
-          ∙ ap (λ n. (price g h *ℤ (pos (paid_kwh r h) -ℤ pos (cleared g h)) +ℤ pos n) -ℤ c.worth-value.result) c.fee-unless-cleared-no-load.ensures.value
+          ∙ ap (λ z. (z +ℤ pos c.fee_unless_cleared-no_load.result) -ℤ c.worth-value.result)
+          (cost ∙ ap (λ z. price g h *ℤ z) (c.beyond.ensures.value ∙ ap (λ n. pos n -ℤ pos (cleared g h)) c.kwh_paid.ensures))
+          ∙ ap (λ n. (price g h *ℤ (pos (paid_kwh r h) -ℤ pos (cleared g h)) +ℤ pos n) -ℤ c.worth-value.result) c.fee_unless_cleared-no_load.ensures.value
           ∙ ap (λ z. (price g h *ℤ (pos (paid_kwh r h) -ℤ pos (cleared g h)) +ℤ pos (cond (eqb (cleared g h) 0) (millicents g.no_load_cents) 0)) -ℤ z)
           (value ∙ ap (λ z. (figures r h).lmp *ℤ z) c.beyond-2.ensures.value);
       small = (omega (arith, ints), omega (arith, ints));

@@ -13,15 +13,15 @@ pub loop-hour-init : goal.loop-hour-init
 loop-hour-init c =
     let g = c.args.resource.now in
     let r = c.args.real_time.now in
-    (subst (Stands g r 0) (sym c.at-midnight-walk.ensures) (stands_first g r c.requires.0.on_line), none_forbidden_yet g r, λ k l. absurd (omega arith))
+    (subst (Stands g r 0) (sym c.at_midnight-walk.ensures) (stands_first g r c.requires.0.on_line), none_forbidden_yet g r, λ k l. absurd (omega arith))
 
-pub returns-in-default : goal.returns-in-default
-returns-in-default c =
+pub returns-in_default : goal.returns-in_default
+returns-in_default c =
     let g = c.args.resource.now in
     let r = c.args.real_time.now in
     let h = c.loop-hour.hour in
     let e : h + 1 + (24 - (h + 1)) ≡ 24 = omega (arith, c.loop-hour-test.true) in
-    ap (forbidden_hour g r) (sym e) ∙ forbidden_stays g r (h + 1) (24 - (h + 1)) (h + 1) (forbidden_here g r h c.loop-hour.invariant.1 c.in-default.ensures)
+    ap (forbidden_hour g r) (sym e) ∙ forbidden_stays g r (h + 1) (24 - (h + 1)) (h + 1) (forbidden_here g r h c.loop-hour.invariant.1 c.in_default.ensures)
 
 pub loop-hour-preserved : goal.loop-hour-preserved
 loop-hour-preserved c =

@@ -7,7 +7,7 @@ use Rattle.credits.specs.Resources.{resource_first, in_front, resources_from, nu
 use Rattle.credits.proofs.Days.{day_formed, resources_more, resources_none}
 use Rattle.credits.proofs.SumLaws.{day_lawful}
 use Rattle.credits.proofs.resources.find_resource.Goals as goal
-use Rattle.credits.proofs.resources.find_resource.Goals.{in-Some+else-found-number, in-default}
+use Rattle.credits.proofs.resources.find_resource.Goals.{in-Some+else-found-number, in_default}
 
 numbered_first : (n : ℕ) (x : ResourceDay) (xs : List ResourceDay) → x.resource.number ≡ n → numbered n (x ∷ xs) ≡ Some x
 unfolding numbered
@@ -24,8 +24,8 @@ left_more f n k end o l e h = sym (ap (numbered n) (resources_more f k o (omega 
 
 pub returns-then-found-number : goal.returns-then-found-number
 returns-then-found-number c =
-    let m = left_more c.args.day.now.file.now c.args.number c.loop-k.k c.blocks-k-end.result c.resource-at.result
-    c.loop-k-test.true c.blocks-k-end.ensures c.resource-at.ensures.value in
+    let m = left_more c.args.day.now.file.now c.args.number c.loop-k.k c.blocks-k-end.result c.resource_at.result
+    c.loop-k-test.true c.blocks-k-end.ensures c.resource_at.ensures.value in
     record {
       value = sym (numbered_first c.args.number c.in-Some.found _ c.if-found-number.true) ∙ (rw c.in-Some.is at m) ∙ c.loop-k.invariant;
       kept = c.in-Some.ensures.few;
@@ -34,11 +34,11 @@ returns-then-found-number c =
 
 pub loop-k-preserved : goal.loop-k-preserved
 loop-k-preserved c =
-    let m = left_more c.args.day.now.file.now c.args.number c.loop-k.k c.blocks-k-end.result c.resource-at.result
-    c.loop-k-test.true c.blocks-k-end.ensures c.resource-at.ensures.value in
-    elim c.match-resource-at.branch [
+    let m = left_more c.args.day.now.file.now c.args.number c.loop-k.k c.blocks-k-end.result c.resource_at.result
+    c.loop-k-test.true c.blocks-k-end.ensures c.resource_at.ensures.value in
+    elim c.match-resource_at.branch [
       | in-Some+else-found-number w ↦ sym (numbered_later c.args.number w.in-Some.found _ w.if-found-number.false) ∙ (rw w.in-Some.is at m) ∙ c.loop-k.invariant
-      | in-default w ↦ (rw w.in-default.is at m) ∙ c.loop-k.invariant
+      | in_default w ↦ (rw w.in_default.is at m) ∙ c.loop-k.invariant
     ]
 
 pub returns : goal.returns

@@ -8,12 +8,12 @@ returns-in-Some-RealTime c =
     let t = from_told c.args.day.now.file.now c.args.k real_time_first c.record.result c.record.ensures in
     search rules
 
-pub returns-in-default : goal.returns-in-default
-returns-in-default c =
+pub returns-in_default : goal.returns-in_default
+returns-in_default c =
     let t = from_told c.args.day.now.file.now c.args.k real_time_first c.record.result c.record.ensures in
     search rules
 
-pub returns-in-default·2 : goal.returns-in-default·2
-returns-in-default·2 c =
+pub returns-in_default-2 : goal.returns-in_default-2
+returns-in_default-2 c =
     let t = from_told c.args.day.now.file.now c.args.k real_time_first c.record.result c.record.ensures in
     search rules

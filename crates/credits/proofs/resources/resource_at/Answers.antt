@@ -12,7 +12,7 @@ returns-in-Some-Resource c =
     let k = c.args.k in
     let t = from_told c.args.day.now.file.now c.args.k (resource_first c.args.k) c.record.result c.record.ensures in
     let w = day_formed c.args.day.now in
-    let e : ◌≡◌ {A = Option ResourceDay} (Some (record { block = c.args.k; resource = c.in-Some-Resource.resource; real_time = c.real-time-at.result }))
+    let e : ◌≡◌ {A = Option ResourceDay} (Some (record { block = c.args.k; resource = c.in-Some-Resource.resource; real_time = c.real_time_at.result }))
     (resource_first c.args.k (drop c.args.k (records c.args.day.now.file.now))) = search rules in
     record {
       value = e;
@@ -20,12 +20,12 @@ returns-in-Some-Resource c =
       few = subst (λ o. IfSome o (Kept 48)) (sym e) (holds_at (Kept 48) f k (resources_kept_few f w));
     }
 
-pub returns-in-default : goal.returns-in-default
-returns-in-default c =
+pub returns-in_default : goal.returns-in_default
+returns-in_default c =
     let t = from_told c.args.day.now.file.now c.args.k (resource_first c.args.k) c.record.result c.record.ensures in
     search rules
 
-pub returns-in-default·2 : goal.returns-in-default·2
-returns-in-default·2 c =
+pub returns-in_default-2 : goal.returns-in_default-2
+returns-in_default-2 c =
     let t = from_told c.args.day.now.file.now c.args.k (resource_first c.args.k) c.record.result c.record.ensures in
     search rules

@@ -4,63 +4,63 @@ use Rattle.credits.specs.DayAhead.{self_scheduled, not_self_scheduled, qualifies
 use Rattle.credits.proofs.Streaks.{streak_none, streak_yes, streak_no, streak_within}
 use Rattle.credits.proofs.Blocks.{qualifies_none, qualifies_more, short_where_scheduled, short_where_unscheduled, not_qualified, by_blocks}
 use Rattle.credits.proofs.self_schedule.qualifies_day_ahead.Goals as goal
-use Rattle.credits.proofs.self_schedule.qualifies_day_ahead.Goals.{then-is-self-scheduled+else-is-short-gap, else-is-self-scheduled+else-is-short-block}
+use Rattle.credits.proofs.self_schedule.qualifies_day_ahead.Goals.{then-is_self_scheduled+else-is_short_gap, else-is_self_scheduled+else-is_short_block}
 
 pub loop-hour-init : goal.loop-hour-init
 loop-hour-init c =
     let g = c.args.resource.now in (sym (streak_none (self_scheduled g)), sym (streak_none (not_self_scheduled g)), qualifies_none g)
 
-pub returns-then-is-short-gap : goal.returns-then-is-short-gap
-returns-then-is-short-gap c =
+pub returns-then-is_short_gap : goal.returns-then-is_short_gap
+returns-then-is_short_gap c =
     let g = c.args.resource.now in
     let h = c.loop-hour.hour in
-    let yes : self_scheduled g h ≡ true = sym c.is-self-scheduled.ensures ∙ c.if-is-self-scheduled.true in
+    let yes : self_scheduled g h ≡ true = sym c.is_self_scheduled.ensures ∙ c.if-is_self_scheduled.true in
     record {
       value =
           not_qualified g h (omega arith)
-          (short_where_scheduled g h c.loop-hour.gap c.is-short-gap.result yes c.loop-hour.invariant.1 c.is-short-gap.ensures ∙ c.if-is-short-gap.true);
+          (short_where_scheduled g h c.loop-hour.gap c.is_short_gap.result yes c.loop-hour.invariant.1 c.is_short_gap.ensures ∙ c.if-is_short_gap.true);
       blocks = by_blocks g;
     }
 
-pub overflow-add-block : goal.overflow-add-block
-overflow-add-block c = omega (arith, c.loop-hour.invariant.0, streak_within (self_scheduled c.args.resource.now) c.loop-hour.hour)
+pub overflow_add-block : goal.overflow_add-block
+overflow_add-block c = omega (arith, c.loop-hour.invariant.0, streak_within (self_scheduled c.args.resource.now) c.loop-hour.hour)
 
-pub is-short-block-requires : goal.is-short-block-requires
-is-short-block-requires c = omega (arith, c.loop-hour.invariant.0, streak_within (self_scheduled c.args.resource.now) c.loop-hour.hour)
+pub is_short_block-requires : goal.is_short_block-requires
+is_short_block-requires c = omega (arith, c.loop-hour.invariant.0, streak_within (self_scheduled c.args.resource.now) c.loop-hour.hour)
 
-pub returns-then-is-short-block : goal.returns-then-is-short-block
-returns-then-is-short-block c =
+pub returns-then-is_short_block : goal.returns-then-is_short_block
+returns-then-is_short_block c =
     let g = c.args.resource.now in
     let h = c.loop-hour.hour in
-    let no : self_scheduled g h ≡ false = sym c.is-self-scheduled.ensures ∙ c.if-is-self-scheduled.false in
+    let no : self_scheduled g h ≡ false = sym c.is_self_scheduled.ensures ∙ c.if-is_self_scheduled.false in
     record {
       value =
           not_qualified g h (omega arith)
-          (short_where_unscheduled g h c.loop-hour.block c.is-short-block.result no c.loop-hour.invariant.0 c.is-short-block.ensures ∙ c.if-is-short-block.true);
+          (short_where_unscheduled g h c.loop-hour.block c.is_short_block.result no c.loop-hour.invariant.0 c.is_short_block.ensures ∙ c.if-is_short_block.true);
       blocks = by_blocks g;
     }
 
-pub overflow-add-gap : goal.overflow-add-gap
-overflow-add-gap c = omega (arith, c.loop-hour.invariant.1, streak_within (not_self_scheduled c.args.resource.now) c.loop-hour.hour)
+pub overflow_add-gap : goal.overflow_add-gap
+overflow_add-gap c = omega (arith, c.loop-hour.invariant.1, streak_within (not_self_scheduled c.args.resource.now) c.loop-hour.hour)
 
 pub loop-hour-preserved : goal.loop-hour-preserved
 loop-hour-preserved c =
     let g = c.args.resource.now in
     let h = c.loop-hour.hour in
-    elim c.if-is-self-scheduled.branch [
-      | then-is-self-scheduled+else-is-short-gap w ↦
-          let yes : self_scheduled g h ≡ true = sym c.is-self-scheduled.ensures ∙ w.if-is-self-scheduled.true in (
+    elim c.if-is_self_scheduled.branch [
+      | then-is_self_scheduled+else-is_short_gap w ↦
+          let yes : self_scheduled g h ≡ true = sym c.is_self_scheduled.ensures ∙ w.if-is_self_scheduled.true in (
             omega (arith, w.block-is, c.loop-hour.invariant.0, streak_yes (self_scheduled g) h yes),
             omega (arith, w.gap-is, streak_no (not_self_scheduled g) h (not_from_true (self_scheduled g h) yes)),
             qualifies_more g h c.loop-hour.invariant.2
-                (short_where_scheduled g h c.loop-hour.gap w.is-short-gap.result yes c.loop-hour.invariant.1 w.is-short-gap.ensures ∙ w.if-is-short-gap.false),
+                (short_where_scheduled g h c.loop-hour.gap w.is_short_gap.result yes c.loop-hour.invariant.1 w.is_short_gap.ensures ∙ w.if-is_short_gap.false),
           )
-      | else-is-self-scheduled+else-is-short-block w ↦
-          let no : self_scheduled g h ≡ false = sym c.is-self-scheduled.ensures ∙ w.if-is-self-scheduled.false in (
+      | else-is_self_scheduled+else-is_short_block w ↦
+          let no : self_scheduled g h ≡ false = sym c.is_self_scheduled.ensures ∙ w.if-is_self_scheduled.false in (
             omega (arith, w.block-is, streak_no (self_scheduled g) h no),
             omega (arith, w.gap-is, c.loop-hour.invariant.1, streak_yes (not_self_scheduled g) h (not_from_false (self_scheduled g h) no)),
             qualifies_more g h c.loop-hour.invariant.2
-                (short_where_unscheduled g h c.loop-hour.block w.is-short-block.result no c.loop-hour.invariant.0 w.is-short-block.ensures ∙ w.if-is-short-block.false),
+                (short_where_unscheduled g h c.loop-hour.block w.is_short_block.result no c.loop-hour.invariant.0 w.is_short_block.ensures ∙ w.if-is_short_block.false),
           )
     ]
 

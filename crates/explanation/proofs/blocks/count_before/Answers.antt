@@ -2,7 +2,7 @@ use Rattle.std.proofs.Common.{◌≡◌, sym, refl, ◌∙◌, arith}
 use Rattle.dayfile.specs.Files.{tally}
 use Rattle.explanation.proofs.Standing.{tally_same, tally_other, tally_min}
 use Rattle.explanation.proofs.blocks.count_before.Goals as goal
-use Rattle.explanation.proofs.blocks.count_before.Goals.{then-kind-at-letter, else-kind-at-letter}
+use Rattle.explanation.proofs.blocks.count_before.Goals.{then-kind_at-letter, else-kind_at-letter}
 
 pub loop-i-init : goal.loop-i-init
 unfolding tally
@@ -10,13 +10,13 @@ loop-i-init c = (refl, omega arith)
 
 pub loop-i-preserved : goal.loop-i-preserved
 loop-i-preserved c =
-    let k = sym c.kind-at.ensures in
-    elim c.if-kind-at-letter.branch [
-      | then-kind-at-letter w ↦
-          let m = tally_same c.args.letter c.args.file.now c.loop-i.i (k ∙ w.if-kind-at-letter.true) in
+    let k = sym c.kind_at.ensures in
+    elim c.if-kind_at-letter.branch [
+      | then-kind_at-letter w ↦
+          let m = tally_same c.args.letter c.args.file.now c.loop-i.i (k ∙ w.if-kind_at-letter.true) in
           (omega (arith, m, w.count-is), omega (arith, w.count-is))
-      | else-kind-at-letter w ↦
-          let m = tally_other c.args.letter c.args.file.now c.loop-i.i (λ e. w.if-kind-at-letter.false (sym k ∙ e)) in
+      | else-kind_at-letter w ↦
+          let m = tally_other c.args.letter c.args.file.now c.loop-i.i (λ e. w.if-kind_at-letter.false (sym k ∙ e)) in
           (omega (arith, m, w.count-is), omega (arith, w.count-is))
     ]
 

@@ -8,4 +8,4 @@ returns-then-k-eq0 c = sym (number_first c.args.file.now c.args.k c.if-k-eq0.tru
 
 pub returns-else-k-eq0 : goal.returns-else-k-eq0
 returns-else-k-eq0 c =
-    c.word-at.ensures ∙ ap (value 4 4) c.block-at.ensures ∙ sym (number_next c.args.file.now c.args.k c.if-k-eq0.false)
+    c.word_at.ensures ∙ ap (value 4 4) c.block_at.ensures ∙ sym (number_next c.args.file.now c.args.k c.if-k-eq0.false)

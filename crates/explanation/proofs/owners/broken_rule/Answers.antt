@@ -3,5 +3,5 @@ use Rattle.explanation.proofs.owners.broken_rule.Goals as goal
 
 pub returns : goal.returns
 returns c =
-    let h = rule_by_halves c.args.limit c.args.count c.min.result c.args.owners.now c.split-at.result.0.now c.split-at.result.1.now c.min.ensures c.split-at.ensures.front c.split-at.ensures.back in
+    let h = rule_by_halves c.args.limit c.args.count c.min.result c.args.owners.now c.split_at.result.0.now c.split_at.result.1.now c.min.ensures c.split_at.ensures.front c.split_at.ensures.back in
     cc h

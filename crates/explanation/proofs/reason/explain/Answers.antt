@@ -8,6 +8,6 @@ pub returns : goal.returns
 returns c =
     let f = c.args.file.now in
     record {
-      found-in-the-bytes = c.find.ensures;
-      broken-rule-is-told = λ l e b. subst Outside (sym (c.find.ensures ∙ ap (λ x. finding x f) e)) (outside f l b);
+      found_in_the_bytes = c.find.ensures;
+      broken_rule_is_told = λ l e b. subst Outside (sym (c.find.ensures ∙ ap (λ x. finding x f) e)) (outside f l b);
     }

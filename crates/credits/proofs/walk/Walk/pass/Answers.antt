@@ -12,23 +12,23 @@ use Rattle.credits.proofs.walk.Walk.pass.Goals as goal
 pub advance-requires : goal.advance-requires
 advance-requires c = (light_more (255 + c.args.hour) 1000 c.args.self.now.commitment (omega (arith, c.requires.limits.0)) c.requires.so_far.light, omega (arith, c.requires.so_far.few, c.requires.limits.0))
 
-pub returns-in-err-advance : goal.returns-in-err-advance
-returns-in-err-advance c =
+pub returns-in_err-advance : goal.returns-in_err-advance
+returns-in_err-advance c =
     let w = c.args.self.now in
     let e = event c.args.real_time.now c.args.hour in
-    let n = advances_none _ _ w c.advance.new.self c.in-err-advance.ensures in
-    rw c.from-residual.ensures
+    let n = advances_none _ _ w c.advance.new.self c.in_err-advance.ensures in
+    rw c.from_residual.ensures
     (stopped_here c.args.resource.now c.args.real_time.now c.args.hour w c.requires.so_far
-    (ap (λ o. moved o w.commitment e) (sym c.fee-unless-cleared-opening.ensures.value) ∙ n))
+    (ap (λ o. moved o w.commitment e) (sym c.fee_unless_cleared-opening.ensures.value) ∙ n))
 
-pub overflow-add-self : goal.overflow-add-self
-overflow-add-self c =
-    let p = advances_some _ _ c.args.self.now c.advance.new.self _ c.in-ok-advance.ensures in
+pub overflow_add-self : goal.overflow_add-self
+overflow_add-self c =
+    let p = advances_some _ _ c.args.self.now c.advance.new.self _ c.in_ok-advance.ensures in
     let n : c.advance.new.self.net ≡ c.args.self.now.net = ap (λ (x : Walk). x.net) p.1.1 in
     let l = c.requires.limits.0 in
     let lo = c.requires.so_far.above in
     let hi = c.requires.so_far.below in
-    let m = c.amount-of.ensures.small in
+    let m = c.amount_of.ensures.small in
     omega (arith, ints)
 
 pub returns : goal.returns
@@ -39,20 +39,20 @@ returns c =
     let w = c.args.self.now in
     let a = c.advance.new.self in
     let e = event r h in
-    let p = advances_some _ _ w a _ c.in-ok-advance.ensures in
+    let p = advances_some _ _ w a _ c.in_ok-advance.ensures in
     let s = p.0 in
     let at : a.commitment ≡ s = ap (λ (x : Walk). x.commitment) p.1.1 in
     let n : c.advance.new.self.net ≡ c.args.self.now.net = ap (λ (x : Walk). x.net) p.1.1 in
     let o : moved (opening_fee g h) w.commitment e ≡ Some s =
-    ap (λ x. moved x w.commitment e) (sym c.fee-unless-cleared-opening.ensures.value) ∙ p.1.0 in
+    ap (λ x. moved x w.commitment e) (sym c.fee_unless_cleared-opening.ensures.value) ∙ p.1.0 in
     let st = c.requires.so_far in
     let l = c.requires.limits.0 in
     let lo = c.requires.so_far.above in
     let hi = c.requires.so_far.below in
-    let m = c.amount-of.ensures.small in
-    let next = stands_next g r h w st s c.amount-of.result
-    (omega (arith, c.fee-unless-cleared-opening.ensures.value, c.fee-unless-cleared-opening.ensures.small, c.requires.limits.1.0.start_up)) o
-    (c.amount-of.ensures.value ∙ ap (λ x. cond (in_period x) (real_time_hour g r h) (pos 0)) at) m.0 m.1 in (
-      ap (λ b. record { shares = b; kwh = (figures r h).metered_kwh; cents = 0 }) (c.is-in-period.ensures ∙ ap in_period at ∙ sym (eligible_here g r h w st s o)),
+    let m = c.amount_of.ensures.small in
+    let next = stands_next g r h w st s c.amount_of.result
+    (omega (arith, c.fee_unless_cleared-opening.ensures.value, c.fee_unless_cleared-opening.ensures.small, c.requires.limits.1.0.start_up)) o
+    (c.amount_of.ensures.value ∙ ap (λ x. cond (in_period x) (real_time_hour g r h) (pos 0)) at) m.0 m.1 in (
+      ap (λ b. record { shares = b; kwh = (figures r h).metered_kwh; cents = 0 }) (c.is_in_period.ensures ∙ ap in_period at ∙ sym (eligible_here g r h w st s o)),
       subst (Stands g r (h + 1)) (sym (same_walk _ _ at (ap (λ (x : Walk). x.fees) p.1.1) (omega (arith, ints)))) next,
     )
