@@ -8,7 +8,7 @@ use Rattle.dayfile.specs.declared.block.Block.{Block}
 use Rattle.dayfile.specs.declared.block.Block.TheVariants.{Day as DayBlock, Participant as ParticipantBlock, Resource as ResourceBlock, RealTime as RealTimeBlock}
 use Rattle.dayfile.specs.Blocks.{shown}
 use Rattle.dayfile.specs.declared.record.Record.{Record}
-use Rattle.dayfile.specs.declared.record.Record.TheVariants.{Day, Participant}
+use Rattle.dayfile.specs.declared.record.Record.TheVariants.{Day, Participant, Resource, RealTime}
 use Rattle.dayfile.specs.declared.record.DayRecord.{DayRecord}
 use Rattle.dayfile.specs.declared.record.ParticipantRecord.{ParticipantRecord}
 use Rattle.dayfile.specs.declared.day.AdmittedDay.{AdmittedDay}
@@ -148,6 +148,21 @@ module _ (f : List ℕ) (w : Formed f) where
           ap (λ ns. get_or ns i 0) participants_are ∙ x.1.1,
         ),
       )
+
+-- the number in a participant's record, else 0
+abbrev pub number_told : Option Record → ℕ
+number_told None = 0
+number_told (Some (Day d)) = 0
+number_told (Some (Participant p)) = p.number
+number_told (Some (Resource g)) = 0
+number_told (Some (RealTime r)) = 0
+
+-- the record behind those of the day and of the participants before it tells the participant's number
+pub number_is : (f : List ℕ) → Formed f → (i : ℕ) → i < length (participants_of f)
+    → (o : Option Record) → o ≡ record_at f (1 + i) → number_told o ≡ get_or (participants_of f) i 0
+number_is f w i l o e =
+    let p = participant_at f w i l in
+    ap number_told (e ∙ p.1.0) ∙ sym p.1.1
 
 -- the Resources of a well-formed day keep their limits, owners lying among the participants
 none_first : (gs : List Generator) → real_time_first (flat_map generator_records gs) ≡ None
