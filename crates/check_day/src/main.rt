@@ -3,21 +3,21 @@
 //! All answers go to standard output; a refused file ends the program with status 1.
 #![tactic(auto)]
 
-use anyhow::anyhow;
 use dayfile::{AdmittedDay, DayRecord, Fault, LONGEST, Place, admit};
 use explanation::{explain, layer_name};
 use std::io;
 use std::io::Read;
+use std::process::ExitCode;
 
 /// What is read of the input: a byte more than the longest file has, so that a longer one is still refused.
 const READ: u64 = LONGEST as u64 + 1;
 
-fn main(rt: HostRuntime) -> anyhow::Result<()> {
+fn main(rt: HostRuntime) -> anyhow::Result<ExitCode> {
     let accepted = check_input(&rt)?;
     if accepted {
-        Ok(())
+        Ok(ExitCode::SUCCESS)
     } else {
-        Err(anyhow!("refused"))
+        Ok(ExitCode::FAILURE)
     }
 }
 

@@ -8,23 +8,23 @@ mod refusal;
 mod show;
 mod task;
 
-use anyhow::anyhow;
 use credits::{Credits, Grid, credit, hourly_allocation};
 use dayfile::{AdmittedDay, LONGEST, admit};
 use refusal::{refuse_credits, refuse_file, refuse_grid};
 use show::{print_credits, print_grid};
 use std::io::Read;
+use std::process::ExitCode;
 use task::{Task, read_task};
 
 /// What is read of the input: a byte more than the longest file has, so that a longer one is still refused.
 const READ: u64 = LONGEST as u64 + 1;
 
-fn main(rt: HostRuntime) -> anyhow::Result<()> {
+fn main(rt: HostRuntime) -> anyhow::Result<ExitCode> {
     let answered = answer(&rt)?;
     if answered {
-        Ok(())
+        Ok(ExitCode::SUCCESS)
     } else {
-        Err(anyhow!("not answered"))
+        Ok(ExitCode::FAILURE)
     }
 }
 

@@ -3,6 +3,7 @@ use dayfile::Fault;
 use std::alloc::AllocError;
 use std::io;
 
+#[derive(Drop)]
 pub enum Stop {
     /// The engine refused the small day.
     Refused(Fault),

@@ -13,17 +13,25 @@ mod tour;
 
 use examples::write_examples;
 use std::env;
+use std::process::ExitCode;
 use stop::Stop;
 use tour::run_tour;
 
-fn main(rt: HostRuntime) -> Result<(), Stop> {
-    let mut words = env::args(&rt)?;
+fn main(rt: HostRuntime) -> ExitCode {
+    match run(&rt) {
+        Ok(()) => ExitCode::SUCCESS,
+        Err(_) => ExitCode::FAILURE,
+    }
+}
+
+fn run(rt: &HostRuntime) -> Result<(), Stop> {
+    let mut words = env::args(rt)?;
     let _program = words.next();
     let Some(task) = words.next() else {
-        return run_tour(&rt);
+        return run_tour(rt);
     };
     match (task.as_str(), words.next()) {
-        ("examples", Some(directory)) => write_examples(&rt, directory.as_str()),
+        ("examples", Some(directory)) => write_examples(rt, directory.as_str()),
         _ => {
             eprintln!(rt; "say nothing for the tour, or: examples DIRECTORY")?;
             Err(Stop::Usage)
