@@ -1,12 +1,10 @@
 -- Days whose credits are worked out by hand: of one Resource each, with its hours in real time.
-use Rattle.std.specs.Prelude.{ℕ, ◌-◌, List, [], ◌∷◌, ◌++◌, replicate, ℤ, pos}
+use Rattle.std.specs.Prelude.{ℕ, ◌∷◌, replicate, ℤ, pos}
 use Rattle.dayfile.specs.declared.record.ResourceRecord.{ResourceRecord}
 use Rattle.dayfile.specs.declared.record.RealTimeRecord.{RealTimeRecord}
 use Rattle.dayfile.specs.declared.record.Owner.{Owner}
 use Rattle.dayfile.specs.declared.record.RealTimeHour.{RealTimeHour}
-use Rattle.dayfile.specs.declared.record.Flag.{Flag}
 use Rattle.dayfile.specs.declared.record.Flag.TheVariants.{Economic}
-use Rattle.dayfile.specs.declared.record.Event.{Event}
 use Rattle.dayfile.specs.declared.record.Event.TheVariants.{Off, PoolRun, Trip, IsoRestart}
 
 abbrev owner : ℕ → ℕ → Owner

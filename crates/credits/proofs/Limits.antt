@@ -1,5 +1,5 @@
 -- The limits of an hour, from those of its record.
-use Rattle.std.proofs.Common.{ℕ, ◌<◌, ◌≤◌, List, length, get_or, pos, arith}
+use Rattle.std.proofs.Common.{ℕ, ◌<◌, ◌≤◌, List, get_or, pos, arith}
 use Rattle.std.proofs.ByRecursion.{All-get_or}
 use Rattle.dayfile.specs.declared.record.ResourceRecord.{ResourceRecord}
 use Rattle.dayfile.specs.declared.record.RealTimeRecord.{RealTimeRecord}

@@ -1,5 +1,5 @@
 -- An hour of the walk through a real-time day.
-use Rattle.std.proofs.Common.{◌≡◌, ℕ, zero, suc, ◌+◌, ◌*◌, ◌/◌, ◌<◌, ◌≤◌, Bool, true, false, cond, ltb, ◌⊎◌, length, get_or, ℤ, pos, ◌+ℤ◌, neg_ℤ, ◌≤ℤ◌, Some, None, Option, sym, refl, ap, ◌∙◌, subst, inl, inr, add-zero, mul_comm, mul-le-mul_left, add-one, arith}
+use Rattle.std.proofs.Common.{◌≡◌, ℕ, zero, suc, ◌+◌, ◌*◌, ◌/◌, ◌<◌, ◌≤◌, Bool, false, cond, ltb, length, ℤ, pos, ◌+ℤ◌, neg_ℤ, ◌≤ℤ◌, Some, None, Option, sym, refl, ap, ◌∙◌, subst, add-zero, mul_comm, mul-le-mul_left, add-one, arith}
 use native.Mathlib.Nat.{div-le_of_le-mul}
 use Rattle.std.proofs.lemmas.Int.{ints}
 use Rattle.std.proofs.lemmas.List.{get_or_past}
@@ -11,7 +11,6 @@ use Rattle.dayfile.specs.declared.record.Event.TheVariants.{Off, PoolRun, SelfRu
 use Rattle.credits.specs.declared.commitment.Commitment.{Commitment}
 use Rattle.credits.specs.declared.commitment.Commitment.TheVariants.{Down, Tripped, PoolPeriod, SelfScheduled, RestartedOnItsOwn}
 use Rattle.credits.specs.declared.walk.Walk.{Walk}
-use Rattle.credits.specs.declared.share.HourShare.{HourShare}
 use Rattle.credits.specs.Sums.{total, net}
 use Rattle.credits.specs.Commitments.{moved, cut_fee, closing, in_period, at_midnight}
 use Rattle.credits.specs.RealTime.{event, opening_fee, commitment, eligible, fee_brought, eligible_hour, real_time_hour, forbidden_hour, real_time_millicents}

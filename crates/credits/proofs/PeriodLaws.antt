@@ -1,5 +1,5 @@
 -- The walk through a real-time day gives the credit by periods.
-use Rattle.std.proofs.Common.{◌≡◌, ℕ, zero, suc, ◌+◌, ◌-◌, ◌<◌, ◌≤◌, Bool, true, false, cond, not, ◌&&◌, eqb, ltb, ◌⊎◌, length, get_or, ℤ, pos, ◌+ℤ◌, Some, None, Option, sym, refl, ap, ◌∙◌, subst, inl, inr, add-one, arith}
+use Rattle.std.proofs.Common.{◌≡◌, ℕ, zero, suc, ◌+◌, ◌-◌, ◌<◌, ◌≤◌, Bool, true, false, cond, not, ◌&&◌, ltb, ◌⊎◌, length, ℤ, pos, ◌+ℤ◌, Some, None, Option, sym, refl, ap, ◌∙◌, subst, inl, inr, add-one, arith}
 use Rattle.std.proofs.lemmas.List.{get_or_past}
 use Rattle.std.proofs.lemmas.Int.{ints}
 use Rattle.std.proofs.lemmas.Bool.{cond_both, cases_Bool, cases_order, cases_lt, both_ways, lt-ltb, ltb-true, and_right, and_parts, not-true}
@@ -9,9 +9,9 @@ use Rattle.dayfile.specs.declared.record.Event.TheVariants.{Off}
 use Rattle.credits.specs.declared.commitment.Commitment.{Commitment}
 use Rattle.credits.specs.Sums.{total, net}
 use Rattle.credits.specs.Spells.{streak, Spell}
-use Rattle.credits.specs.Commitments.{at_midnight, moved, in_period}
-use Rattle.credits.specs.RealTime.{event, opening_fee, commitment, eligible, eligible_hour, fee_brought, real_time_hour, forbidden_hour, real_time_millicents}
-use Rattle.credits.specs.Periods.{forbidden, forbidden_by, pool_hour, pool_hour_by, pool_streak, period_ends, period_fee, period_credit, ended_credit, credit_by_periods, span, tripped_before, on_line_before, begins_a_period, met, is_pool_run, First, RealTimeByPeriods}
+use Rattle.credits.specs.Commitments.{at_midnight, in_period}
+use Rattle.credits.specs.RealTime.{event, commitment, eligible, eligible_hour, fee_brought, real_time_hour, forbidden_hour, real_time_millicents}
+use Rattle.credits.specs.Periods.{forbidden, forbidden_by, pool_hour, pool_hour_by, pool_streak, period_ends, period_fee, ended_credit, credit_by_periods, span, tripped_before, on_line_before, begins_a_period, met, is_pool_run, First, RealTimeByPeriods}
 use Rattle.credits.proofs.Streaks.{streak_none, streak_yes, streak_no, streak_within, spell_streak, streak_spell}
 use Rattle.credits.proofs.Passing.{commitment_next, forbidden_step, forbidden_next}
 use Rattle.credits.proofs.Totals.{total_same}

@@ -1,11 +1,7 @@
 -- Signed numbers within limits, their products and sums.
-use Rattle.std.proofs.Common.{◌≡◌, ℕ, suc, ◌+◌, ◌*◌, ◌<◌, ◌≤◌, ℤ, pos, negsuc, ◌+ℤ◌, ◌-ℤ◌, ◌*ℤ◌, neg_ℤ, ◌≤ℤ◌, sym, refl, ap, ◌∙◌, subst, mul-le-mul, add-one, arith, w32, w64, SFits, to_z, of_z}
-use Rattle.std.proofs.lemmas.Int.{ints, to_z-of_z}
-use Rattle.std.proofs.ByRecursion.{All-get_or}
-use Rattle.dayfile.specs.declared.record.ResourceRecord.{ResourceRecord}
-use Rattle.dayfile.specs.Keeping.{ResourceKept, Price, Energy}
+use Rattle.std.proofs.Common.{◌≡◌, ℕ, suc, ◌+◌, ◌*◌, ◌≤◌, ℤ, pos, negsuc, ◌+ℤ◌, ◌*ℤ◌, neg_ℤ, ◌≤ℤ◌, refl, mul-le-mul, add-one, arith, w64, SFits, to_z, of_z}
+use Rattle.std.proofs.lemmas.Int.{ints}
 use Rattle.credits.specs.Sums.{net}
-use Rattle.credits.specs.DayAhead.{price, cleared, day_ahead_lmp}
 
 -- a number that is at most so far from 0
 abbrev pub Within : ℕ → ℤ → Type 0

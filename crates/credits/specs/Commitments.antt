@@ -1,5 +1,5 @@
 -- A Resource's commitment from hour to hour in real time.
-use Rattle.std.specs.Prelude.{ℕ, zero, suc, ◌+◌, ◌*◌, ◌/◌, Bool, true, false, cond, Some, None, Option, nat_lt}
+use Rattle.std.specs.Prelude.{ℕ, ◌+◌, ◌*◌, ◌/◌, Bool, true, false, cond, Some, None, Option, nat_lt}
 use Rattle.dayfile.specs.declared.record.Event.{Event}
 use Rattle.dayfile.specs.declared.record.Event.TheVariants.{Off, PoolRun, SelfRun, Trip, IsoRestart, OwnRestart}
 use Rattle.credits.specs.declared.commitment.Commitment.{Commitment}

@@ -1,5 +1,5 @@
 -- The credits of a day.
-use Rattle.std.specs.Prelude.{◌≡◌, ℕ, zero, suc, ◌+◌, ◌<◌, ◌≤◌, cond, List, [], ◌∷◌, map, length, replicate, Some, None, Ok, Err, sum_by, Option, Result, nat_lt, slice_index}
+use Rattle.std.specs.Prelude.{ℕ, zero, suc, ◌+◌, cond, List, [], ◌∷◌, map, length, replicate, Some, None, sum_by, Option, Result, nat_lt, slice_index}
 use Rattle.std.specs.List.{range_with_len}
 use Rattle.dayfile.specs.declared.fault.Fault.{Fault}
 use Rattle.dayfile.specs.declared.fault.Fault.TheVariants.{Event, PoolCost, NoResource, GridEvent}

@@ -1,5 +1,5 @@
 -- A Resource's cents hour by hour and pool by pool.
-use Rattle.std.specs.Prelude.{◌≡◌, ℕ, ◌+◌, ◌-◌, ◌<◌, ◌≤◌, cond, List, [], map, length, get_or, replicate, ℤ, pos, Some, None, Option, ◌==◌, slice_index, slice_index_or}
+use Rattle.std.specs.Prelude.{◌≡◌, ℕ, ◌+◌, ◌-◌, ◌<◌, ◌≤◌, cond, List, [], map, length, get_or, replicate, Some, None, Option, ◌==◌, slice_index, slice_index_or}
 use Rattle.std.specs.List.{AllByRecursion as All, range_with_len}
 use Rattle.dayfile.specs.declared.record.Flag.{Flag}
 use Rattle.dayfile.specs.declared.record.Flag.TheVariants.{Economic}

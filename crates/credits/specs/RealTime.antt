@@ -1,5 +1,5 @@
 -- The real-time credit of a Resource.
-use Rattle.std.specs.Prelude.{ℕ, zero, suc, ◌+◌, ◌*◌, min, max, Bool, true, false, cond, List, map, ℤ, pos, ◌+ℤ◌, ◌-ℤ◌, ◌*ℤ◌, Some, None, Option, ◌==◌, slice_index_or}
+use Rattle.std.specs.Prelude.{ℕ, zero, suc, ◌+◌, min, max, Bool, false, cond, List, map, ℤ, pos, ◌+ℤ◌, ◌-ℤ◌, ◌*ℤ◌, Some, None, Option, ◌==◌, slice_index_or}
 use Rattle.std.specs.List.{range_with_len}
 use Rattle.dayfile.specs.declared.record.ResourceRecord.{ResourceRecord}
 use Rattle.dayfile.specs.declared.record.RealTimeRecord.{RealTimeRecord}
@@ -7,7 +7,6 @@ use Rattle.dayfile.specs.declared.record.RealTimeHour.{RealTimeHour}
 use Rattle.dayfile.specs.declared.record.Event.{Event}
 use Rattle.dayfile.specs.declared.record.Event.TheVariants.{Off}
 use Rattle.credits.specs.declared.commitment.Commitment.{Commitment}
-use Rattle.credits.specs.declared.commitment.Commitment.TheVariants.{Down}
 use Rattle.credits.specs.declared.share.HourShare.{HourShare}
 use Rattle.credits.specs.Sums.{total, net}
 use Rattle.credits.specs.Cents.{millicents}

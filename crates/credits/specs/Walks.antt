@@ -1,6 +1,5 @@
 -- The walk through the hours of a real-time day.
 use Rattle.std.specs.Prelude.{◌≡◌, ℕ, ◌+◌, ◌*◌, ◌≤◌, List, ℤ, pos, neg_ℤ, ◌≤ℤ◌, Some, None, Option}
-use Rattle.dayfile.specs.declared.record.Event.{Event}
 use Rattle.credits.specs.declared.commitment.Commitment.{Commitment}
 use Rattle.credits.specs.declared.commitment.Commitment.TheVariants.{Down, Tripped, PoolPeriod, SelfScheduled, RestartedOnItsOwn}
 use Rattle.credits.specs.declared.walk.Walk.{Walk}

@@ -1,7 +1,6 @@
 -- Hours and owners as weighted records.
-use Rattle.std.specs.Prelude.{◌≡◌, ℕ, ◌<◌, ◌≤◌, min, Bool, true, false, cond, List, get_or}
+use Rattle.std.specs.Prelude.{ℕ, ◌<◌, ◌≤◌, min, Bool, true, false, cond}
 use Rattle.std.proofs.Common.{arith}
-use Rattle.credits.specs.declared.amounts.PoolAmounts.{PoolAmounts}
 
 -- a weight, cut to the most that a weighted record may weigh
 abbrev pub cut : ℕ → ℕ

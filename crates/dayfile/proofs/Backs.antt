@@ -15,7 +15,7 @@ use Rattle.dayfile.specs.declared.record.Flag.{Flag}
 use Rattle.dayfile.specs.declared.record.Flag.TheVariants.{Economic, Lscpr, Var, Scr}
 use Rattle.dayfile.specs.declared.record.Event.{Event}
 use Rattle.dayfile.specs.declared.record.Event.TheVariants.{Off, PoolRun, SelfRun, Trip, IsoRestart, OwnRestart}
-use Rattle.dayfile.specs.Bytes.{number, digits, value, each}
+use Rattle.dayfile.specs.Bytes.{digits, value, each}
 use Rattle.dayfile.specs.Records.{word_bytes, word_from, signed_bytes, signed_from, flag_number, flag_named, flag_bytes, flag_from, event_number, event_named, event_bytes, event_from, load_bytes, load_from, owner_bytes, owner_from, hour_bytes, hour_from, day_of, participant_of, resource_of, real_time_of}
 use Rattle.dayfile.specs.Widths.{load_long, word_long, signed_long, owner_long, hour_long, flag_long, event_long}
 use Rattle.dayfile.specs.Writing.{Fitting, LoadFits, OwnerFits, HourFits}

@@ -1,24 +1,23 @@
 -- The blocks of an accepted file as a chain of records, each good behind those before it.
-use Rattle.std.proofs.Common.{◌≡◌, ℕ, zero, suc, ◌+◌, ◌-◌, ◌*◌, ◌/◌, ◌%◌, ◌<◌, ◌≤◌, Bool, true, false, cond, not, ◌&&◌, ◌||◌, eqb, ltb, leb, ◌⊎◌, List, [], ◌∷◌, ◌++◌, length, get_or, take, drop, Some, None, Option, sym, refl, ap, ◌∙◌, subst, inl, inr, add-zero, arith, take-add}
+use Rattle.std.proofs.Common.{◌≡◌, ℕ, zero, suc, ◌+◌, ◌*◌, ◌<◌, ◌≤◌, Bool, true, false, cond, not, ◌&&◌, ◌||◌, eqb, ◌⊎◌, List, [], ◌∷◌, ◌++◌, length, get_or, take, drop, Some, None, Option, sym, refl, ap, ◌∙◌, subst, inl, inr, add-zero, arith, take-add}
 use Rattle.std.specs.List.{flat_map}
-use Rattle.std.proofs.lemmas.List.{append_assoc, length-append, length-take, length-take-le, length-drop, drop-drop, take_at, drop_at, get_or-take, get_or_past}
-use Rattle.std.proofs.lemmas.Bool.{cond-false, cond-true, eq-eqb, ne_eqb, eqb-true, and_parts, cases_lt}
+use Rattle.std.proofs.lemmas.List.{append_assoc, length-take, length-take-le, length-drop, drop-drop, take_at, drop_at, get_or-take, get_or_past}
+use Rattle.std.proofs.lemmas.Bool.{eq-eqb, cases_lt}
 use Rattle.dayfile.specs.declared.fault.Fault.{Fault}
-use Rattle.dayfile.specs.declared.fault.Fault.TheVariants.{Check, Order, Field, Rising, Owners}
 use Rattle.dayfile.specs.declared.before.Before.{Before}
 use Rattle.dayfile.specs.declared.record.Record.{Record}
 use Rattle.dayfile.specs.declared.record.Record.TheVariants.{Day, Participant, Resource, RealTime}
-use Rattle.dayfile.specs.Bytes.{value, weighed}
+use Rattle.dayfile.specs.Bytes.{value}
 use Rattle.dayfile.specs.Owners.{owners_kept}
 use Rattle.dayfile.specs.Layout.{first_fault, earlier, table_for}
 use Rattle.dayfile.specs.Records.{record_of, resource_of, participant_of, day_of, real_time_of, encode, body, kind_of, part}
 use Rattle.dayfile.specs.Writing.{Fitting, record_owned}
-use Rattle.dayfile.specs.Files.{standing, after, nothing, block, blocks, kind, checked, in_order, untied, above, rising, owned, judged, known, lone_fault, block_fault, blocks_fault, or_else}
-use Rattle.dayfile.specs.Days.{records, records_from}
+use Rattle.dayfile.specs.Files.{standing, after, block, checked, in_order, untied, above, rising, owned, judged, known, lone_fault, block_fault, blocks_fault, or_else}
+use Rattle.dayfile.specs.Days.{records_from}
 use Rattle.dayfile.proofs.Numbers.{Bytes, bytes_drop, value_drop, value_take}
 use Rattle.dayfile.proofs.Tables.{earlier_none_parts}
 use Rattle.dayfile.proofs.Tells.{Tells, holds, fails, tells_eqb}
-use Rattle.dayfile.proofs.Walks.{standing_first, standing_next}
+use Rattle.dayfile.proofs.Walks.{standing_next}
 use Rattle.dayfile.proofs.Encodings.{length_encode, encode_kind, encode_checked, encode_known, encode_fault}
 use Rattle.dayfile.proofs.Rounds.{reads_back, kind_again, fitting_again, written_again}
 

@@ -1,14 +1,14 @@
 -- Writing an admitted day: no record of it is refused, and each turn writes its block.
-use Rattle.std.proofs.Common.{◌≡◌, ℕ, zero, suc, ◌+◌, ◌-◌, ◌*◌, ◌/◌, ◌<◌, ◌≤◌, Bool, true, false, cond, ltb, List, [], ◌∷◌, ◌++◌, length, get_or, take, drop, Some, None, Ok, Err, Option, Result, sym, refl, ap, ◌∙◌, subst, append-nil, arith, take-add}
+use Rattle.std.proofs.Common.{◌≡◌, ℕ, ◌+◌, ◌-◌, ◌*◌, ◌<◌, ◌≤◌, Bool, true, false, cond, ltb, List, [], ◌∷◌, ◌++◌, length, take, drop, Some, None, Ok, Err, Option, Result, sym, refl, ap, ◌∙◌, subst, append-nil, arith, take-add}
 use Rattle.std.specs.List.{flat_map, AllByRecursion as All}
-use Rattle.std.proofs.lemmas.List.{append_assoc, length-append, length-take, length-take-le, length-drop, drop-drop, drop_all, take_at, drop_at, take_all}
+use Rattle.std.proofs.lemmas.List.{append_assoc, length-append, length-take-le, length-drop, drop-drop, drop_all, take_at, drop_at, take_all}
 use Rattle.std.proofs.lemmas.Bool.{cond-true, cond-false, le-ltb, lt-ltb}
 use Rattle.dayfile.specs.declared.fault.Fault.{Fault}
 use Rattle.dayfile.specs.declared.fault.Fault.TheVariants.{RecordField, RecordOwners, Room}
 use Rattle.dayfile.specs.declared.record.Record.{Record}
 use Rattle.dayfile.specs.declared.record.Record.TheVariants.{Day, Participant, Resource, RealTime}
 use Rattle.dayfile.specs.declared.record.Owner.{Owner}
-use Rattle.dayfile.specs.Owners.{Owned, owners_kept}
+use Rattle.dayfile.specs.Owners.{Owned}
 use Rattle.dayfile.specs.Layout.{first_fault, table_for}
 use Rattle.dayfile.specs.Records.{record_of, encode, body, kind_of}
 use Rattle.dayfile.specs.Writing.{record_owned, unwritten, Done, Writes}

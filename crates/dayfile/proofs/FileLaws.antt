@@ -1,13 +1,13 @@
 -- A file is accepted just where it is the joined blocks of a day's records.
-use Rattle.std.proofs.Common.{◌≡◌, ℕ, zero, suc, ◌+◌, ◌-◌, ◌*◌, ◌/◌, ◌%◌, ◌<◌, ◌≤◌, Bool, true, false, cond, not, ◌&&◌, ◌||◌, eqb, ltb, leb, ◌⊎◌, List, [], ◌∷◌, ◌++◌, map, length, get_or, take, drop, is_some, Some, None, Option, sym, refl, ap, ◌∙◌, subst, inl, inr, append-nil, add-zero, zero-add, arith}
-use Rattle.std.specs.List.{flat_map, AllByRecursion as All}
-use Rattle.std.proofs.lemmas.List.{append_assoc, length-append, length-map, take_all, take_at, get_or-take, get_or-drop, get_or_append_left}
-use Rattle.std.proofs.lemmas.Bool.{cond-false, cond-true, eq-eqb, ne_eqb, lt-ltb, eqb-true, eqb-false, and_parts, le-leb, leb-true, not_from_true, cases_lt}
+use Rattle.std.proofs.Common.{◌≡◌, ℕ, zero, suc, ◌+◌, ◌-◌, ◌*◌, ◌%◌, ◌<◌, ◌≤◌, Bool, true, false, cond, not, ◌&&◌, eqb, ltb, leb, ◌⊎◌, List, [], ◌∷◌, ◌++◌, map, length, get_or, drop, is_some, Some, None, Option, sym, refl, ap, ◌∙◌, subst, inl, inr, append-nil, add-zero, zero-add, arith}
+use Rattle.std.specs.List.{flat_map}
+use Rattle.std.proofs.lemmas.List.{length-append, length-map, take_all, get_or-take, get_or-drop, get_or_append_left}
+use Rattle.std.proofs.lemmas.Bool.{cond-true, eq-eqb, ne_eqb, lt-ltb, eqb-true, eqb-false, and_parts, le-leb, leb-true, cases_lt}
 use Rattle.dayfile.specs.declared.fault.Fault.{Fault}
 use Rattle.dayfile.specs.declared.fault.Fault.TheVariants.{Length, Counts}
 use Rattle.dayfile.specs.declared.before.Before.{Before}
 use Rattle.dayfile.specs.declared.record.Record.{Record}
-use Rattle.dayfile.specs.declared.record.Record.TheVariants.{Day, Participant, Resource, RealTime}
+use Rattle.dayfile.specs.declared.record.Record.TheVariants.{Day, Participant}
 use Rattle.dayfile.specs.declared.record.DayRecord.{DayRecord}
 use Rattle.dayfile.specs.declared.record.ParticipantRecord.{ParticipantRecord}
 use Rattle.dayfile.specs.Layout.{first_fault, earlier, table_for, day_table, field}
@@ -23,7 +23,7 @@ use Rattle.dayfile.proofs.Rounds.{reads_back}
 use Rattle.dayfile.specs.Writing.{Fitting}
 use Rattle.dayfile.proofs.Chains.{Chain, step, ends, chained, accepts, none_left, none_right, order_known, judged_none}
 use Rattle.dayfile.specs.WellFormed.{Generator, generator_records, day_records}
-use Rattle.dayfile.proofs.Shapes.{Shaped, DayShape, chain_shape, shape_chain, day_ends}
+use Rattle.dayfile.proofs.Shapes.{Shaped, chain_shape, shape_chain, day_ends}
 
 -- what an accepted file's tests say
 pub record Passed (f : List ℕ) : Type 0 where

@@ -1,8 +1,7 @@
 -- The first rule that a block breaks, whatever breaks each of them.
-use Rattle.std.proofs.Common.{◌≡◌, ℕ, ◌<◌, Bool, cond, ◌⊎◌, Some, None, Option, sym, refl, ap, inl, inr, arith}
+use Rattle.std.proofs.Common.{◌≡◌, ℕ, ◌<◌, Bool, ◌⊎◌, Some, None, Option, sym, refl, ap, inl, inr, arith}
 use Rattle.std.proofs.lemmas.Bool.{cases_lt}
 use Rattle.dayfile.specs.declared.fault.Fault.{Fault}
-use Rattle.dayfile.specs.declared.fault.Fault.TheVariants.{Owners}
 use Rattle.dayfile.specs.Files.{judged}
 use Rattle.dayfile.specs.Rules.{Rule, check, order, field, number, owners, at, refusal, turn, byte, Sooner, First}
 use Rattle.dayfile.proofs.Tables.{Least}

@@ -1,5 +1,5 @@
 -- A block by itself is refused just for the first rule that it breaks.
-use Rattle.std.proofs.Common.{◌≡◌, ℕ, Bool, true, cond, ◌⊎◌, List, ◌++◌, length, get_or, take, drop, Some, None, Option, sym, refl, ap, ◌∙◌, subst, inl, inr, arith}
+use Rattle.std.proofs.Common.{◌≡◌, ℕ, Bool, true, cond, List, ◌++◌, length, get_or, take, drop, Some, None, Option, sym, refl, ap, ◌∙◌, subst, inl, inr, arith}
 use Rattle.std.proofs.lemmas.List.{take_at}
 use Rattle.dayfile.specs.declared.fault.Fault.{Fault}
 use Rattle.dayfile.specs.declared.record.Record.{Record}
@@ -10,7 +10,7 @@ use Rattle.dayfile.specs.Records.{record_of, resource_of, encode}
 use Rattle.dayfile.specs.Files.{checked, known, owned, lone_fault}
 use Rattle.dayfile.specs.Keeping.{Keeps}
 use Rattle.dayfile.specs.Writing.{Fitting}
-use Rattle.dayfile.specs.Rules.{Rule, check, order, field, number, owners, at, refusal, Sooner, BreaksAlone, First, RuledAlone}
+use Rattle.dayfile.specs.Rules.{Rule, owners, at, refusal, BreaksAlone, First, RuledAlone}
 use Rattle.dayfile.proofs.Numbers.{Bytes}
 use Rattle.dayfile.proofs.Tables.{first_least}
 use Rattle.dayfile.proofs.Tells.{Tells, holds, fails, tells_or, tells_eqb, kept_tells, Denies, clear, broken, denies_not}

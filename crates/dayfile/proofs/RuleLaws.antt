@@ -1,18 +1,17 @@
 -- A file is refused just where a rule is the first that is broken.
-use Rattle.std.proofs.Common.{◌≡◌, ℕ, zero, suc, ◌+◌, ◌-◌, ◌*◌, ◌/◌, ◌%◌, ◌<◌, ◌≤◌, min, Bool, true, false, cond, not, ◌&&◌, ◌||◌, eqb, ltb, leb, ◌⊎◌, List, [], ◌∷◌, ◌++◌, length, get_or, take, drop, Some, None, Ok, Err, Option, Result, sym, refl, ap, ◌∙◌, subst, inl, inr, add-one, arith}
-use Rattle.std.proofs.lemmas.Bool.{cond-false, cond-true, eq-eqb, ne_eqb, eqb-true, eqb-false, or_cases, and_parts, cases_lt, leb-true, leb-false, ltb-true, ltb-false, le-leb, lt-ltb}
+use Rattle.std.proofs.Common.{◌≡◌, ℕ, zero, suc, ◌+◌, ◌%◌, ◌<◌, ◌≤◌, Bool, true, false, cond, not, ◌&&◌, eqb, ◌⊎◌, List, length, get_or, take, Some, None, Ok, Err, Option, sym, refl, ap, ◌∙◌, subst, inl, inr, arith}
+use Rattle.std.proofs.lemmas.Bool.{cond-false, ne_eqb, cases_lt}
 use Rattle.dayfile.specs.declared.fault.Fault.{Fault}
 use Rattle.dayfile.specs.declared.fault.Fault.TheVariants.{Length, Check, Order, Field, Rising, Owners, Counts, Event, PoolCost, TariffPlaces, PoolWeight, PostingRows, OtherSheet, PostingClosed, Held, NoRow, WithdrawingRows, WithdrawingClosed, NotHeld, ClosingDate, RecordField, RecordOwners, Room, NoResource, GridEvent}
 use Rattle.dayfile.specs.Bytes.{value, weighed}
 use Rattle.dayfile.specs.Layout.{Faulty, table_for, first_fault, earlier}
-use Rattle.dayfile.specs.declared.record.Owner.{Owner}
 use Rattle.dayfile.specs.Owners.{Owned, owners_kept}
 use Rattle.dayfile.specs.Records.{resource_of}
-use Rattle.dayfile.specs.Files.{tally, latest, kind_before, number_before, standing, block, blocks, kind, number_in, checked, in_order, untied, above, rising, owned, judged, block_fault, blocks_fault, or_else, verdict, answer, well_sized, counted, end_fault}
-use Rattle.dayfile.specs.Rules.{Rule, Law, check, order, field, number, owners, size, at, counts, refusal, Ordered, Untied, Last, Breaks, Broken, turn, byte, Sooner, Earlier, FirstBroken, First, JustWhere, Ruled}
-use Rattle.dayfile.proofs.Tells.{Tells, holds, fails, tells_and, tells_or, tells_not, tells_like, tells_eqb, tells_leb, tells_ltb, kept_tells, Denies, clear, broken, denies_like, denies_not}
+use Rattle.dayfile.specs.Files.{tally, latest, kind_before, number_before, standing, block, blocks, kind, number_in, checked, in_order, untied, above, rising, owned, block_fault, blocks_fault, or_else, verdict, answer, well_sized, counted}
+use Rattle.dayfile.specs.Rules.{Rule, Law, check, order, field, number, owners, size, at, counts, refusal, Ordered, Untied, Last, Breaks, Broken, Sooner, Earlier, FirstBroken, First, Ruled}
+use Rattle.dayfile.proofs.Tells.{Tells, holds, fails, tells_and, tells_or, tells_not, tells_eqb, tells_leb, tells_ltb, kept_tells, Denies, clear, broken, denies_like, denies_not}
 use Rattle.dayfile.proofs.FirstRules.{Says, judged_says, line_rule}
-use Rattle.dayfile.proofs.Tables.{Least, first_least, least_either, least_like}
+use Rattle.dayfile.proofs.Tables.{Least, first_least, least_either}
 
 -- the rules for a block, each told by its test
 module _ (f : List ℕ) where

@@ -1,7 +1,6 @@
 -- A chain of records is a day, its participants, and its Resources each with an optional real-time record.
-use Rattle.std.proofs.Common.{◌≡◌, ℕ, zero, suc, ◌+◌, ◌-◌, ◌*◌, ◌<◌, ◌≤◌, Bool, true, false, cond, not, ◌&&◌, ◌||◌, eqb, ltb, leb, ◌⊎◌, List, [], ◌∷◌, ◌++◌, map, length, get_or, take, drop, Some, None, Option, sym, refl, ap, ◌∙◌, subst, inl, inr, add-zero, zero-add, arith}
+use Rattle.std.proofs.Common.{◌≡◌, ℕ, suc, ◌+◌, ◌<◌, true, false, eqb, ◌⊎◌, List, [], ◌∷◌, ◌++◌, map, length, Some, None, Option, sym, refl, ap, ◌∙◌, subst, inl, inr, add-zero, zero-add, arith}
 use Rattle.std.specs.List.{flat_map, AllByRecursion as All}
-use Rattle.std.proofs.lemmas.List.{append_assoc}
 use Rattle.dayfile.specs.declared.before.Before.{Before}
 use Rattle.dayfile.specs.declared.record.Record.{Record}
 use Rattle.dayfile.specs.declared.record.Record.TheVariants.{Day, Participant, Resource, RealTime}
@@ -14,7 +13,7 @@ use Rattle.dayfile.specs.Records.{body, kind_of}
 use Rattle.dayfile.specs.Writing.{Fitting, record_owned}
 use Rattle.dayfile.specs.WellFormed.{Generator, generator_records, day_records}
 use Rattle.dayfile.specs.Files.{in_order, above, nothing}
-use Rattle.dayfile.proofs.Chains.{own_number, step, Tied, rises, Good, Chain, ends}
+use Rattle.dayfile.proofs.Chains.{step, Good, Chain, ends}
 
 abbrev pub pair_number : Generator → ℕ
 pair_number u = u.0.number

@@ -1,9 +1,8 @@
 -- The walk over the blocks of a file.
-use Rattle.std.proofs.Common.{◌≡◌, ℕ, zero, suc, ◌+◌, ◌-◌, ◌*◌, ◌/◌, ◌%◌, ◌<◌, ◌≤◌, Bool, true, false, cond, not, ◌&&◌, ◌||◌, eqb, leb, List, [], ◌∷◌, ◌++◌, length, get_or, take, drop, Some, None, Ok, Err, Option, Result, sym, refl, ap, ◌∙◌, subst, add-one, arith}
-use Rattle.std.proofs.lemmas.Bool.{cond-false, cond-true}
+use Rattle.std.proofs.Common.{◌≡◌, ℕ, suc, ◌+◌, ◌-◌, ◌<◌, ◌≤◌, Bool, true, false, cond, eqb, List, get_or, Some, None, Ok, Err, Option, refl, ap, ◌∙◌, add-one, arith}
 use Rattle.dayfile.specs.declared.fault.Fault.{Fault}
 use Rattle.dayfile.specs.declared.before.Before.{Before}
-use Rattle.dayfile.specs.Files.{tally, latest, kind_before, number_before, standing, after, nothing, block, blocks, block_fault, blocks_fault, behind, or_else, verdict, accepted, answer, well_sized, end_fault}
+use Rattle.dayfile.specs.Files.{tally, latest, kind_before, number_before, standing, after, nothing, block, blocks, block_fault, blocks_fault, behind, or_else, answer}
 
 -- what stands before the first block, and before the next
 pub standing_first : (f : List ℕ) → standing f 0 ≡ nothing

@@ -1,5 +1,5 @@
 -- A file is accepted just where it is the joined blocks of a well-formed day.
-use Rattle.std.proofs.Common.{◌≡◌, ℕ, zero, suc, ◌+◌, ◌*◌, ◌^◌, ◌<◌, ◌≤◌, Bool, true, false, ltb, List, [], ◌∷◌, ◌++◌, map, length, get_or, take, drop, Some, None, Ok, Err, Option, sym, refl, ap, ◌∙◌, subst, append-nil, arith}
+use Rattle.std.proofs.Common.{◌≡◌, ℕ, ◌+◌, ◌*◌, ◌^◌, ◌≤◌, true, List, [], ◌∷◌, ◌++◌, map, length, take, drop, Some, None, Ok, sym, refl, ap, ◌∙◌, append-nil, arith}
 use Rattle.std.specs.List.{flat_map, AllByRecursion as All}
 use Rattle.std.proofs.lemmas.List.{append_assoc, take_at, drop_at, drop-drop}
 use Rattle.std.proofs.lemmas.Bool.{ltb-true, lt-ltb}
@@ -13,16 +13,16 @@ use Rattle.dayfile.specs.Records.{record_of, encode}
 use Rattle.dayfile.specs.Writing.{record_owned}
 use Rattle.dayfile.specs.Files.{block, blocks, nothing, verdict, answer}
 use Rattle.dayfile.specs.Days.{records, records_from}
-use Rattle.dayfile.specs.Keeping.{DayKept, ParticipantKept, ResourceKept, RealTimeKept, Keeps}
-use Rattle.dayfile.specs.WellFormed.{Generator, generator_records, OwnRealTimeKept, day_records, WellFormed, Encodes, Formed, WellFormedOnly}
+use Rattle.dayfile.specs.Keeping.{ParticipantKept, ResourceKept, Keeps}
+use Rattle.dayfile.specs.WellFormed.{Generator, OwnRealTimeKept, day_records, WellFormed, Encodes, Formed, WellFormedOnly}
 use Rattle.dayfile.proofs.Numbers.{Bytes}
 use Rattle.dayfile.proofs.Walks.{answer_ok}
 use Rattle.dayfile.proofs.Encodings.{length_encode}
 use Rattle.dayfile.proofs.Rounds.{reads_back}
 use Rattle.dayfile.proofs.Keepings.{kept_fits, kept_faultless, kept_owners, faultless_kept}
 use Rattle.dayfile.proofs.Chains.{Chain, step}
-use Rattle.dayfile.proofs.Shapes.{Sound, RisesBehind, ReadOut, PairSound, pair_number, Shaped, shape_chain}
-use Rattle.dayfile.proofs.FileLaws.{Passed, passed, shaped_accepted, accepted_shaped, joined_length}
+use Rattle.dayfile.proofs.Shapes.{Sound, RisesBehind, PairSound, Shaped, shape_chain}
+use Rattle.dayfile.proofs.FileLaws.{passed, shaped_accepted, accepted_shaped, joined_length}
 
 all_like : {A : Type 0} (P Q : A → Type 0) (xs : List A) → ((x : A) → P x → Q x) → All P xs → All Q xs
 all_like P Q [] h a = tt

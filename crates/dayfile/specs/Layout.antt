@@ -1,5 +1,5 @@
 -- The fields of each kind of block, their limits, and the first faulty field.
-use Rattle.std.specs.Prelude.{◌≡◌, ℕ, zero, suc, ◌+◌, ◌-◌, ◌*◌, ◌<◌, ◌≤◌, min, Bool, true, false, cond, not, ◌&&◌, ◌||◌, ◌⊎◌, List, [], ◌∷◌, ◌++◌, length, take, Some, None, Option, ◌==◌, nat_le}
+use Rattle.std.specs.Prelude.{◌≡◌, ℕ, zero, suc, ◌+◌, ◌*◌, ◌<◌, min, Bool, true, false, cond, ◌&&◌, ◌||◌, ◌⊎◌, List, [], ◌∷◌, Some, None, Option, ◌==◌, nat_le}
 use Rattle.dayfile.specs.declared.layout.Limits.{Limits}
 use Rattle.dayfile.specs.declared.layout.Limits.TheVariants.{Unnamed, Whole, Signed}
 use Rattle.dayfile.specs.declared.layout.Entry.{Entry}

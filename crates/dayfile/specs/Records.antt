@@ -1,5 +1,5 @@
 -- The records of a day, and the blocks that write them.
-use Rattle.std.specs.Prelude.{◌≡◌, ℕ, zero, suc, ◌+◌, ◌*◌, Bool, true, false, cond, List, [], ◌∷◌, ◌++◌, length, take, drop, ℤ, ◌==◌, slice_index}
+use Rattle.std.specs.Prelude.{ℕ, cond, List, ◌∷◌, ◌++◌, take, drop, ℤ, ◌==◌, slice_index}
 use Rattle.std.specs.Int.{w32}
 use Rattle.std.proofs.Common.{to_z, of_z}
 use Rattle.std.specs.List.{flat_map}
@@ -16,7 +16,7 @@ use Rattle.dayfile.specs.declared.record.Flag.{Flag}
 use Rattle.dayfile.specs.declared.record.Flag.TheVariants.{Economic, Lscpr, Var, Scr}
 use Rattle.dayfile.specs.declared.record.Event.{Event}
 use Rattle.dayfile.specs.declared.record.Event.TheVariants.{Off, PoolRun, SelfRun, Trip, IsoRestart, OwnRestart}
-use Rattle.dayfile.specs.Bytes.{number, digits, value, weighed, zeros, each}
+use Rattle.dayfile.specs.Bytes.{digits, value, weighed, zeros, each}
 
 -- the numbers of flags and events
 abbrev pub flag_number : Flag → ℕ

@@ -1,5 +1,5 @@
 -- How many bytes each repeated part takes.
-use Rattle.std.specs.Prelude.{◌≡◌, ℕ, ◌<◌, List, ◌++◌, length, ℤ, refl}
+use Rattle.std.specs.Prelude.{◌≡◌, ℕ, ◌<◌, length, ℤ, refl}
 use Rattle.std.proofs.Common.{lit<}
 use Rattle.dayfile.specs.declared.record.Load.{Load}
 use Rattle.dayfile.specs.declared.record.Owner.{Owner}

@@ -1,7 +1,7 @@
 -- The small day: three participants and one Resource; and a record of each other kind with a number of its own in each field.
-use Rattle.std.specs.Prelude.{ℕ, ◌-◌, List, [], ◌∷◌, ◌++◌, replicate, ℤ, pos, negsuc}
+use Rattle.std.specs.Prelude.{ℕ, List, [], ◌∷◌, ◌++◌, replicate, ℤ, pos, negsuc}
 use Rattle.dayfile.specs.declared.record.Record.{Record}
-use Rattle.dayfile.specs.declared.record.Record.TheVariants.{Day, Participant, Resource, RealTime}
+use Rattle.dayfile.specs.declared.record.Record.TheVariants.{Day, Participant, Resource}
 use Rattle.dayfile.specs.declared.record.DayRecord.{DayRecord}
 use Rattle.dayfile.specs.declared.record.ParticipantRecord.{ParticipantRecord}
 use Rattle.dayfile.specs.declared.record.ResourceRecord.{ResourceRecord}
@@ -9,9 +9,7 @@ use Rattle.dayfile.specs.declared.record.RealTimeRecord.{RealTimeRecord}
 use Rattle.dayfile.specs.declared.record.Load.{Load}
 use Rattle.dayfile.specs.declared.record.Owner.{Owner}
 use Rattle.dayfile.specs.declared.record.RealTimeHour.{RealTimeHour}
-use Rattle.dayfile.specs.declared.record.Flag.{Flag}
 use Rattle.dayfile.specs.declared.record.Flag.TheVariants.{Economic, Lscpr, Var, Scr}
-use Rattle.dayfile.specs.declared.record.Event.{Event}
 use Rattle.dayfile.specs.declared.record.Event.TheVariants.{Off, Trip, OwnRestart}
 
 abbrev load : ℕ → ℕ → ℕ → Load

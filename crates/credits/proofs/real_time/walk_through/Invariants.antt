@@ -1,4 +1,4 @@
-use Rattle.std.proofs.Common.{◌≡◌, ℕ, ◌<◌, List, length, get_or, Some, None}
+use Rattle.std.proofs.Common.{◌≡◌, ℕ, ◌<◌, get_or, None}
 use Rattle.credits.specs.RealTime.{forbidden_hour, real_time_share}
 use Rattle.credits.specs.Walks.{Stands}
 use Rattle.credits.proofs.Allots.{no_share}

@@ -1,13 +1,9 @@
-use Rattle.std.proofs.Common.{◌≡◌, ℕ, ◌+◌, ◌-◌, ◌*◌, ◌<◌, ◌≤◌, cond, ltb, List, [], ◌++◌, length, take, drop, Some, None, Ok, Err, sym, refl, ap, ◌∙◌, subst, arith, rules}
-use Rattle.std.specs.List.{flat_map}
+use Rattle.std.proofs.Common.{◌≡◌, ℕ, ◌*◌, ◌<◌, ltb, ◌++◌, length, take, drop, Some, None, sym, refl, ap, ◌∙◌, arith}
 use Rattle.std.proofs.lemmas.List.{take_all}
 use Rattle.std.proofs.lemmas.Bool.{cond-true, lt-ltb}
-use Rattle.dayfile.specs.declared.fault.Fault.TheVariants.{Room}
-use Rattle.dayfile.specs.Records.{record_of, encode}
-use Rattle.dayfile.specs.Writing.{Done}
+use Rattle.dayfile.specs.Records.{record_of}
 use Rattle.dayfile.specs.Files.{block, blocks}
-use Rattle.dayfile.specs.Days.{records, WritesDay}
-use Rattle.dayfile.proofs.FileLaws.{Passed, passed, accepted_none, records_again}
+use Rattle.dayfile.proofs.FileLaws.{passed, accepted_none, records_again}
 use Rattle.dayfile.proofs.DayWrites.{day_refused, day_written, turned}
 use Rattle.dayfile.proofs.admitted.write_day.Goals as goal
 use Rattle.dayfile.proofs.admitted.write_day.Goals.{in-Some+in_ok-write_record, in_default}

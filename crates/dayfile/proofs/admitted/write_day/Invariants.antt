@@ -1,4 +1,4 @@
-use Rattle.std.proofs.Common.{◌≡◌, ◌*◌, ◌≤◌, ◌++◌, length, take, drop}
+use Rattle.std.proofs.Common.{◌≡◌, ◌*◌, ◌++◌, take, drop}
 use Rattle.dayfile.proofs.admitted.write_day.Given as goal
 
 abbrev pub invariant-loop-k : goal.invariant-loop-k

@@ -1,6 +1,5 @@
-use Rattle.std.proofs.Common.{◌≡◌, Ok, Err, sym, refl, ap, ◌∙◌, subst}
+use Rattle.std.proofs.Common.{sym, refl, ◌∙◌, subst}
 use Rattle.std.proofs.lemmas.Result.{err_from_is_err_and}
-use Rattle.dayfile.specs.Files.{verdict, answer}
 use Rattle.dayfile.specs.Rules.{Ruled}
 use Rattle.dayfile.specs.WellFormed.{WellFormedOnly}
 use Rattle.dayfile.proofs.RuleLaws.{ruled}

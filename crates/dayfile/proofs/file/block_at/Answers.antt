@@ -1,4 +1,4 @@
-use Rattle.std.proofs.Common.{◌≡◌, ◌+◌, ◌-◌, ◌*◌, length, take, drop, arith, rules}
+use Rattle.std.proofs.Common.{◌≡◌, ◌+◌, ◌-◌, ◌*◌, arith, rules}
 use Rattle.std.proofs.lemmas.List.{places}
 use Rattle.dayfile.proofs.file.block_at.Goals as goal
 

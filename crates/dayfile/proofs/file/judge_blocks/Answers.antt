@@ -1,7 +1,7 @@
-use Rattle.std.proofs.Common.{◌≡◌, ℕ, ◌+◌, ◌-◌, ◌*◌, ◌/◌, ◌<◌, ◌≤◌, length, get_or, Some, None, Ok, Err, sym, refl, ap, ◌∙◌, arith, rules}
+use Rattle.std.proofs.Common.{◌≡◌, ◌-◌, Ok, sym, ap, ◌∙◌, arith}
 use Rattle.std.proofs.lemmas.Result.{err_from_is_err_and}
 use Rattle.dayfile.specs.declared.before.Before.{Before}
-use Rattle.dayfile.specs.Files.{blocks_fault, block_fault, standing, block, blocks, after, answer, nothing}
+use Rattle.dayfile.specs.Files.{blocks_fault, block_fault, standing, block, blocks, after, answer}
 use Rattle.dayfile.proofs.Walks.{standing_first, standing_next, block_good, block_bad, blocks_end, behind_bad, behind_good, answer_ok, answer_err, after_participants, after_resources}
 use Rattle.dayfile.proofs.file.judge_blocks.Goals as goal
 

@@ -1,4 +1,4 @@
-use Rattle.std.proofs.Common.{◌≡◌, ◌-◌, ◌/◌, ◌≤◌, length}
+use Rattle.std.proofs.Common.{◌≡◌, ◌-◌, ◌≤◌}
 use Rattle.dayfile.specs.Files.{blocks_fault, standing, blocks}
 use Rattle.dayfile.proofs.file.judge_blocks.Given as goal
 

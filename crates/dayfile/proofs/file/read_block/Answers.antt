@@ -1,7 +1,7 @@
-use Rattle.std.proofs.Common.{◌≡◌, ℕ, ◌<◌, true, false, length, get_or, Some, None, sym, refl, ap, ◌∙◌, subst, arith, rules}
+use Rattle.std.proofs.Common.{◌≡◌, ℕ, true, false, length, sym, ap, ◌∙◌, subst, arith, rules}
 use Rattle.std.proofs.lemmas.Result.{err_from_is_err_and}
 use Rattle.dayfile.specs.Records.{encode}
-use Rattle.dayfile.specs.Files.{lone_fault, answer, known}
+use Rattle.dayfile.specs.Files.{lone_fault}
 use Rattle.dayfile.proofs.Walks.{answer_ok, answer_err}
 use Rattle.dayfile.proofs.Rounds.{shown_is}
 use Rattle.dayfile.specs.Rules.{RuledAlone}

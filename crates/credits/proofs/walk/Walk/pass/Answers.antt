@@ -1,11 +1,9 @@
-use Rattle.std.proofs.Common.{◌≡◌, ℕ, ◌+◌, ◌≤◌, cond, pos, Some, None, Option, sym, refl, ap, ◌∙◌, subst, arith, w64, SFits, rules}
-use Rattle.std.proofs.lemmas.Int.{ints, to_z-of_z}
-use Rattle.credits.specs.declared.commitment.Commitment.{Commitment}
+use Rattle.std.proofs.Common.{◌≡◌, ◌+◌, cond, pos, Some, sym, ap, ◌∙◌, subst, arith}
+use Rattle.std.proofs.lemmas.Int.{ints}
 use Rattle.credits.specs.declared.walk.Walk.{Walk}
-use Rattle.credits.specs.Commitments.{moved, closing, in_period}
-use Rattle.credits.specs.declared.share.HourShare.{HourShare}
+use Rattle.credits.specs.Commitments.{moved, in_period}
 use Rattle.credits.specs.RealTime.{event, figures, opening_fee, real_time_hour}
-use Rattle.credits.specs.Walks.{Passes, Stands}
+use Rattle.credits.specs.Walks.{Stands}
 use Rattle.credits.proofs.Passing.{advances_none, advances_some, stopped_here, eligible_here, stands_next, light_more, same_walk}
 use Rattle.credits.proofs.walk.Walk.pass.Goals as goal
 

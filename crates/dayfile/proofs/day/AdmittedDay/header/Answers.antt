@@ -1,4 +1,4 @@
-use Rattle.std.proofs.Common.{◌≡◌, Some, sym, refl, ap, ◌∙◌, arith}
+use Rattle.std.proofs.Common.{Some, sym, ap, ◌∙◌, arith}
 use Rattle.dayfile.specs.Records.{day_from, part}
 use Rattle.dayfile.specs.declared.record.Record.TheVariants.{Day}
 use Rattle.dayfile.proofs.FileLaws.{accepted_none, passed, some_block, first_record}

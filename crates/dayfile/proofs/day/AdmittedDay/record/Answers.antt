@@ -1,4 +1,4 @@
-use Rattle.std.proofs.Common.{◌≡◌, ltb, Some, None, sym, ap, ◌∙◌}
+use Rattle.std.proofs.Common.{ltb, Some, None, sym, ap, ◌∙◌}
 use Rattle.std.proofs.lemmas.Bool.{cond-true, lt-ltb}
 use Rattle.dayfile.specs.Records.{record_of}
 use Rattle.dayfile.specs.Files.{block, blocks}
