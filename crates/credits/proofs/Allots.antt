@@ -1,6 +1,6 @@
 -- Hours that share a credit: what they weigh, and what each gets.
 use Rattle.std.proofs.Common.{◌≡◌, ℕ, ◌+◌, ◌<◌, ◌≤◌, Bool, true, false, cond, eqb, ltb, List, [], ◌∷◌, ◌++◌, map, length, get_or, take, drop, set, ℤ, sum_by, sum, count_by, sym, refl, ap, ◌∙◌, subst, arith}
-use Rattle.std.specs.List.{AllByRecursion as All, range_with_len}
+use Rattle.std.specs.List.{AllByRecursion, range_with_len}
 use Rattle.std.proofs.lemmas.Bool.{cond-true, cond-false, and_right}
 use Rattle.std.proofs.lemmas.List.{take_all, drop_all, take_more_set, map_more, append-nil}
 use Rattle.std.proofs.lemmas.List.Sums.{sum_by-cons, sum-map, get_or-le-sum_by}
@@ -37,12 +37,12 @@ pub levelled_all : (xs ys : List HourShare) (i : ℕ) → length xs ≤ i → ys
 levelled_all xs ys i l e =
     e ∙ ap (λ ws. map level (take i xs) ++ ws) (drop_all i xs l) ∙ append-nil (map level (take i xs)) ∙ ap (map level) (take_all i xs l)
 
-sumBy_map : {X Y : Type 0} (f : Y → ℕ) (g : X → Y) (xs : List X) → sum_by f (map g xs) ≡ sum_by (λ x. f (g x)) xs
-sumBy_map f g [] = refl
-sumBy_map f g (x ∷ xs) = sum_by-cons f (g x) (map g xs) ∙ ap (λ n. f (g x) + n) (sumBy_map f g xs) ∙ sym (sum_by-cons (λ y. f (g y)) x xs)
+sum_by_map : {X Y : Type 0} (f : Y → ℕ) (g : X → Y) (xs : List X) → sum_by f (map g xs) ≡ sum_by (λ x. f (g x)) xs
+sum_by_map f g [] = refl
+sum_by_map f g (x ∷ xs) = sum_by-cons f (g x) (map g xs) ∙ ap (λ n. f (g x) + n) (sum_by_map f g xs) ∙ sym (sum_by-cons (λ y. f (g y)) x xs)
 
 -- each is at most the sum
-pub all_below_sum : {X : Type 0} (f : X → ℕ) (m : ℕ) (d : X) (xs : List X) → sum (map f xs) ≤ m → All (λ x. f x ≤ m) xs
+pub all_below_sum : {X : Type 0} (f : X → ℕ) (m : ℕ) (d : X) (xs : List X) → sum (map f xs) ≤ m → AllByRecursion (λ x. f x ≤ m) xs
 all_below_sum f m d xs h =
     All-from_get_or (λ x. f x ≤ m) xs d (λ i l. omega (arith, get_or-le-sum_by f xs i d l, sum-map f xs))
 
@@ -57,14 +57,14 @@ weighs_level : (xs : List HourShare) → map weighs (map level xs) ≡ map (weig
 weighs_level [] = refl
 weighs_level (x ∷ xs) = ap (λ ws. weight true x ∷ ws) (weighs_level xs)
 
-weighs_same : (xs : List HourShare) → All (λ x. x.kwh ≤ 2000000) xs → map weighs xs ≡ map (weight false) xs
+weighs_same : (xs : List HourShare) → AllByRecursion (λ x. x.kwh ≤ 2000000) xs → map weighs xs ≡ map (weight false) xs
 weighs_same [] h = refl
 weighs_same (x ∷ xs) h =
     let e : cut x.kwh ≡ x.kwh = omega arith in
     ap (λ n. cond x.shares n 0 ∷ map weighs xs) e ∙ ap (λ ws. weight false x ∷ ws) (weighs_same xs h.1)
 
 -- they weigh what they should, and as many share
-pub weights_levelled : (xs : List HourShare) → All (λ x. x.kwh ≤ 2000000) xs → map weighs (levelled xs) ≡ weights xs
+pub weights_levelled : (xs : List HourShare) → AllByRecursion (λ x. x.kwh ≤ 2000000) xs → map weighs (levelled xs) ≡ weights xs
 weights_levelled xs h = by_even (even xs)
   where
     by_even : (b : Bool) → map weighs (cond b (map level xs) xs) ≡ map (weight b) xs
@@ -75,7 +75,7 @@ pub sharing_levelled : (xs : List HourShare) → count_by (λ x. x.shares) (leve
 sharing_levelled xs = by_even (even xs)
   where
     by_even : (b : Bool) → count_by (λ x. x.shares) (cond b (map level xs) xs) ≡ count_by (λ x. x.shares) xs
-    by_even true = sumBy_map (λ x. cond x.shares 1 0) level xs
+    by_even true = sum_by_map (λ x. cond x.shares 1 0) level xs
     by_even false = refl
 
 -- where an hour shares, something weighs
@@ -94,7 +94,7 @@ divisible m xs = by_sharing (eqb (count_by (λ x. x.shares) xs) 0) refl
     by_sharing false e = and_right (ltb 0 (cents m)) (eqb (sum (weights xs)) 0) (weighty xs e)
 
 -- hours of which each has few kWh
-pub all_light : (share : ℕ → HourShare) → ((h : ℕ) → h < 24 → (share h).kwh ≤ 2000000) → All (λ x. x.kwh ≤ 2000000) (map share (range_with_len 0 24))
+pub all_light : (share : ℕ → HourShare) → ((h : ℕ) → h < 24 → (share h).kwh ≤ 2000000) → AllByRecursion (λ x. x.kwh ≤ 2000000) (map share (range_with_len 0 24))
 all_light share few =
     All-from_get_or (λ x. x.kwh ≤ 2000000) (map share (range_with_len 0 24)) no_share (λ h l.
     let m : h < 24 = omega (arith, length-map-range_with_len share 0 24) in

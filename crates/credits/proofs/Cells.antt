@@ -1,20 +1,20 @@
 -- Amounts by pool, of which one is added to, and the cells of a grid.
 use Rattle.std.proofs.Common.{◌≡◌, ℕ, zero, suc, ◌+◌, ◌-◌, ◌<◌, ◌≤◌, cond, eqb, List, [], ◌∷◌, map, length, get_or, set, sym, refl, ap, ◌∙◌, inl, inr, add-zero, arith}
-use Rattle.std.specs.List.{range_with_len, AllByRecursion as All}
+use Rattle.std.specs.List.{range_with_len, AllByRecursion}
 use Rattle.std.proofs.lemmas.List.{ext_get_or, length-set, get_or-set_same, get_or-set_other}
 use Rattle.std.proofs.lemmas.List.FromFn.{length-map-range_with_len, get_or-map-range_with_len}
 use Rattle.std.proofs.lemmas.Bool.{cases_eq, cond-true, cond-false, eq-eqb, ne_eqb}
 
 -- a list of small numbers has none that is large, at any place
-pub getD_small : (most : ℕ) (xs : List ℕ) (i : ℕ) → All (λ n. n ≤ most) xs → get_or xs i 0 ≤ most
-getD_small most [] i h = omega arith
-getD_small most (x ∷ xs) zero h = h.0
-getD_small most (x ∷ xs) (suc i) h = getD_small most xs i h.1
+pub get_or_small : (most : ℕ) (xs : List ℕ) (i : ℕ) → AllByRecursion (λ n. n ≤ most) xs → get_or xs i 0 ≤ most
+get_or_small most [] i h = omega arith
+get_or_small most (x ∷ xs) zero h = h.0
+get_or_small most (x ∷ xs) (suc i) h = get_or_small most xs i h.1
 
 -- an amount for each of n pools, of which 1 is the first
 module _ (n : ℕ) (f : ℕ → ℕ) (p : ℕ) (from_one : 1 ≤ p) (up_to_lem : p ≤ n) where
-  pub getD_pool : get_or (map f (range_with_len 1 n)) (p - 1) 0 ≡ f p
-  getD_pool = get_or-map-range_with_len f 1 n (p - 1) p 0 (omega arith) (omega arith)
+  pub get_or_pool : get_or (map f (range_with_len 1 n)) (p - 1) 0 ≡ f p
+  get_or_pool = get_or-map-range_with_len f 1 n (p - 1) p 0 (omega arith) (omega arith)
 
   -- cents added to a pool
   pub pool_added : (c : ℕ) → set (map f (range_with_len 1 n)) (p - 1) (get_or (map f (range_with_len 1 n)) (p - 1) 0 + c) ≡ map (λ q. f q + cond (eqb q p) c 0) (range_with_len 1 n)
@@ -41,7 +41,7 @@ module _ (n : ℕ) (f : ℕ → ℕ) (p : ℕ) (from_one : 1 ≤ p) (up_to_lem :
                 let q : 1 + k ≡ p = omega arith in
                 ap (λ i. get_or (set xs (p - 1) v) i 0) e
                 ∙ get_or-set_same xs (p - 1) v 0 (omega (arith, length-map-range_with_len f 1 n))
-                ∙ ap (λ i. i + c) getD_pool
+                ∙ ap (λ i. i + c) get_or_pool
                 ∙ sym (ap (λ i. f i + c) q)
                 ∙ ap (λ i. f (1 + k) + i) (sym (cond-true (eqb (1 + k) p) c 0 (eq-eqb (1 + k) p q))))
             | inr e ↦ (

@@ -1,6 +1,6 @@
 -- What crediting a day answers and leaves follows from its parts.
 use Rattle.std.proofs.Common.{◌≡◌, ℕ, ◌+◌, ◌-◌, ◌<◌, ◌≤◌, List, map, length, get_or, replicate, Some, None, Ok, Err, Option, Result, sym, refl, ap, ◌∙◌, subst, arith}
-use Rattle.std.specs.List.{range_with_len, AllByRecursion as All}
+use Rattle.std.specs.List.{range_with_len, AllByRecursion}
 use Rattle.std.proofs.lemmas.List.FromFn.{get_or-map-range_with_len, length-map-range_with_len, fill_by_all}
 use Rattle.std.proofs.lemmas.List.{ext_get_or, get_or-replicate}
 use Rattle.dayfile.specs.declared.fault.Fault.{Fault}
@@ -44,7 +44,7 @@ module _ (f : List ℕ) (rows : List PoolAmounts) (w : Wide 48 rows) (h : (i p :
   credits_same count numbers c n = let r = rows_credited in cc
 
   -- their columns are the pools' costs
-  pub columns_cost : All (Kept 48) (resources_of f) → cost_fault (column rows) 21 ≡ cost_fault (pool_cost f) 21
+  pub columns_cost : AllByRecursion (Kept 48) (resources_of f) → cost_fault (column rows) 21 ≡ cost_fault (pool_cost f) 21
   columns_cost kept =
       costs_same (column rows) (pool_cost f) 21
       (λ p one most. total_same (λ i. amount rows i p) (λ i. credit_of f i p) 48 (λ i l. h i p l one most) ∙ pool_whole f 48 p kept)

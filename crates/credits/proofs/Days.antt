@@ -1,6 +1,6 @@
 -- A day's records from a block on, its participants, and its Resources, which keep their limits.
 use Rattle.std.proofs.Common.{◌≡◌, ℕ, zero, suc, ◌+◌, ◌<◌, ◌≤◌, Bool, true, false, cond, ltb, List, [], ◌∷◌, ◌++◌, map, length, get_or, take, drop, is_some, IfSome, Some, None, Option, sym, refl, ap, ◌∙◌, subst, add-zero, zero-add, one-add, arith}
-use Rattle.std.specs.List.{flat_map, AllByRecursion as All}
+use Rattle.std.specs.List.{flat_map, AllByRecursion}
 use Rattle.std.proofs.lemmas.List.{drop_more, drop_all, length-append, length-map}
 use Rattle.std.proofs.lemmas.Bool.{ltb-true, ltb-false, cond-true, lt-ltb}
 use Rattle.std.proofs.ByRecursion.{All-weaker}
@@ -30,30 +30,30 @@ unfolding records_from
 from_length f k zero = refl
 from_length f k (suc n) = ap suc (from_length f (k + 1) n)
 
-from_getD : (f : List ℕ) (k n i : ℕ) (d : Record) → i < n → get_or (records_from f k n) i d ≡ record_of (block f (k + i))
+from_get_or : (f : List ℕ) (k n i : ℕ) (d : Record) → i < n → get_or (records_from f k n) i d ≡ record_of (block f (k + i))
 unfolding records_from
-from_getD f k zero i d l = absurd (omega arith)
-from_getD f k (suc n) zero d l = ap (λ j. record_of (block f j)) (sym (add-zero k))
-from_getD f k (suc n) (suc i) d l =
+from_get_or f k zero i d l = absurd (omega arith)
+from_get_or f k (suc n) zero d l = ap (λ j. record_of (block f j)) (sym (add-zero k))
+from_get_or f k (suc n) (suc i) d l =
     let e : k + 1 + i ≡ k + suc i = omega arith in
-    from_getD f (k + 1) n i d (omega arith) ∙ ap (λ j. record_of (block f j)) e
+    from_get_or f (k + 1) n i d (omega arith) ∙ ap (λ j. record_of (block f j)) e
 
 pub length_records : (f : List ℕ) → length (records f) ≡ blocks f
 length_records f = from_length f 0 (blocks f)
 
 module _ (f : List ℕ) (k : ℕ) where
   -- the record of block k is the k-th
-  pub getD_records : (d : Record) → k < blocks f → get_or (records f) k d ≡ record_of (block f k)
-  getD_records d l = from_getD f 0 (blocks f) k d l ∙ ap (λ j. record_of (block f j)) (zero-add k)
+  pub get_or_records : (d : Record) → k < blocks f → get_or (records f) k d ≡ record_of (block f k)
+  get_or_records d l = from_get_or f 0 (blocks f) k d l ∙ ap (λ j. record_of (block f j)) (zero-add k)
 
   pub record_at_is : (d : Record) → k < blocks f → record_at f k ≡ Some (get_or (records f) k d)
-  record_at_is d l = cond-true (ltb k (blocks f)) (Some (record_of (block f k))) None (lt-ltb k (blocks f) l) ∙ ap Some (sym (getD_records d l))
+  record_at_is d l = cond-true (ltb k (blocks f)) (Some (record_of (block f k))) None (lt-ltb k (blocks f) l) ∙ ap Some (sym (get_or_records d l))
 
   -- the records from block k on
   pub records_more : k < blocks f → drop k (records f) ≡ record_of (block f k) ∷ drop (k + 1) (records f)
   records_more l =
       let d = record_of (block f k) in
-      drop_more (records f) k d (omega (arith, length_records f)) ∙ ap (λ r. r ∷ drop (k + 1) (records f)) (getD_records d l)
+      drop_more (records f) k d (omega (arith, length_records f)) ∙ ap (λ r. r ∷ drop (k + 1) (records f)) (get_or_records d l)
 
   pub records_none : blocks f ≤ k → drop k (records f) ≡ []
   records_none l = drop_all k (records f) (omega (arith, length_records f))
@@ -170,14 +170,14 @@ none_first [] = refl
 none_first (g ∷ gs) = refl
 
 module _ (limit : ℕ) where
-  generators_kept : (gs : List Generator) (k : ℕ) → All (λ g. ResourceKept limit g.0) gs → All well.OwnRealTimeKept gs → All (Kept limit) (resources_from k (flat_map generator_records gs))
+  generators_kept : (gs : List Generator) (k : ℕ) → AllByRecursion (λ g. ResourceKept limit g.0) gs → AllByRecursion well.OwnRealTimeKept gs → AllByRecursion (Kept limit) (resources_from k (flat_map generator_records gs))
   unfolding resources_from
   generators_kept [] k a b = tt
   generators_kept ((g, None) ∷ gs) k a b =
       (record { resource = a.0; real_time = subst OwnRealTimeKept (sym (none_first gs)) tt }, generators_kept gs (k + 1) a.1 b.1)
   generators_kept ((g, Some r) ∷ gs) k a b = (record { resource = a.0; real_time = b.0.0 }, generators_kept gs (k + 1 + 1) a.1 b.1)
 
-  behind_participants : (ps : List ParticipantRecord) (rs : List Record) → ((k : ℕ) → All (Kept limit) (resources_from k rs)) → (k : ℕ) → All (Kept limit) (resources_from k (map Participant ps ++ rs))
+  behind_participants : (ps : List ParticipantRecord) (rs : List Record) → ((k : ℕ) → AllByRecursion (Kept limit) (resources_from k rs)) → (k : ℕ) → AllByRecursion (Kept limit) (resources_from k (map Participant ps ++ rs))
   unfolding resources_from
   behind_participants [] rs h k = h k
   behind_participants (p ∷ ps) rs h k = behind_participants ps rs h (k + 1)
@@ -217,25 +217,25 @@ kept_higher low high l x h =
     }
 
 module _ (f : List ℕ) (w : Formed f) where
-  pub resources_kept : All (Kept (length (participants_of f))) (resources_of f)
+  pub resources_kept : AllByRecursion (Kept (length (participants_of f))) (resources_of f)
   unfolding resources_from
   resources_kept =
       let ps = w.1.0 in
       let gs = w.1.1.0 in
       let wf = w.1.1.1.0.0 in
       let h = behind_participants (length ps) ps (flat_map generator_records gs) (λ k. generators_kept (length ps) gs k wf.resources wf.real_time) 1 in
-      subst (λ n. All (Kept n) (resources_of f)) (sym (participants_many f w)) (subst (λ rs. All (Kept (length ps)) (resources_from 0 rs)) (sym w.1.1.1.1) h)
+      subst (λ n. AllByRecursion (Kept n) (resources_of f)) (sym (participants_many f w)) (subst (λ rs. AllByRecursion (Kept (length ps)) (resources_from 0 rs)) (sym w.1.1.1.1) h)
 
-  pub resources_kept_few : All (Kept 48) (resources_of f)
+  pub resources_kept_few : AllByRecursion (Kept 48) (resources_of f)
   resources_kept_few = All-weaker (Kept (length (participants_of f))) (Kept 48) (kept_higher (length (participants_of f)) 48 (participants_few f w)) (resources_of f) resources_kept
 
 -- what holds of the Resources of a file holds of one that block k opens
-in_front_parts : {A : Type 0} (P : A → Type 0) (o : Option A) (xs : List A) → All P (in_front o xs) → IfSome o P × All P xs
+in_front_parts : {A : Type 0} (P : A → Type 0) (o : Option A) (xs : List A) → AllByRecursion P (in_front o xs) → IfSome o P × AllByRecursion P xs
 in_front_parts P None xs h = (tt, h)
 in_front_parts P (Some x) xs h = h
 
 module _ (P : ResourceDay → Type 0) where
-  at_first : (k j : ℕ) (rs : List Record) → All P (resources_from j rs) → IfSome (resource_first (j + k) (drop k rs)) P
+  at_first : (k j : ℕ) (rs : List Record) → AllByRecursion P (resources_from j rs) → IfSome (resource_first (j + k) (drop k rs)) P
   unfolding resources_from
   at_first zero j [] h = tt
   at_first (suc k) j [] h = tt
@@ -244,7 +244,7 @@ module _ (P : ResourceDay → Type 0) where
       let e : j + 1 + k ≡ j + suc k = omega arith in
       subst (λ i. IfSome (resource_first i (drop k rs)) P) e (at_first k (j + 1) rs (in_front_parts P (resource_first j (r ∷ rs)) (resources_from (j + 1) rs) h).1)
 
-  pub holds_at : (f : List ℕ) (k : ℕ) → All P (resources_of f) → IfSome (resource_first k (drop k (records f))) P
+  pub holds_at : (f : List ℕ) (k : ℕ) → AllByRecursion P (resources_of f) → IfSome (resource_first k (drop k (records f))) P
   holds_at f k h = subst (λ i. IfSome (resource_first i (drop k (records f))) P) (zero-add k) (at_first k 0 (records f) h)
 
 -- an admitted day is well-formed, and its blocks are few

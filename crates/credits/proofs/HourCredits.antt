@@ -1,6 +1,6 @@
 -- An hour's cents of both markets, credited to the owners' places.
 use Rattle.std.proofs.Common.{◌≡◌, ℕ, zero, suc, ◌+◌, ◌<◌, ◌≤◌, Bool, true, false, cond, eqb, ◌⊎◌, List, [], ◌∷◌, map, length, get_or, take, sum, sym, refl, ap, ◌∙◌, subst, inl, inr, arith}
-use Rattle.std.specs.List.{AllByRecursion as All}
+use Rattle.std.specs.List.{AllByRecursion}
 use Rattle.std.proofs.ByRecursion.{All-map}
 use Rattle.std.proofs.lemmas.List.{length-map, length-take}
 use Rattle.std.proofs.lemmas.Bool.{eqb-true}
@@ -79,17 +79,17 @@ first_owners f g h (suc n) [] = refl
 first_owners f g h (suc n) (o ∷ os) = ap (λ y. y ∷ map f (take n (map of_owner os))) (h o) ∙ ap (λ ys. g o ∷ ys) (first_owners f g h n os)
 
 -- owners at a Resource's places with its parts are as dividing asks
-all_unmap : {X Y : Type 0} (P : Y → Type 0) (f : X → Y) (xs : List X) → All P (map f xs) → All (λ x. P (f x)) xs
+all_unmap : {X Y : Type 0} (P : Y → Type 0) (f : X → Y) (xs : List X) → AllByRecursion P (map f xs) → AllByRecursion (λ x. P (f x)) xs
 all_unmap P f [] a = tt
 all_unmap P f (x ∷ xs) a = (a.0, all_unmap P f xs a.1)
 
 pub owners_fit : (g : ResourceRecord) (xs : List OwnerShare) → ResourceKept 48 g → map (λ o. o.place) xs ≡ owner_places g → map (λ o. o.parts) xs ≡ owner_parts g
-    → (length xs ≤ 8) × ((All (λ o. o.place < 48) xs) × (sum (map (λ o. o.parts) xs) ≡ 1000000))
+    → (length xs ≤ 8) × ((AllByRecursion (λ o. o.place < 48) xs) × (sum (map (λ o. o.parts) xs) ≡ 1000000))
 owners_fit g xs k e f =
     let os = take g.owner_count g.owners in (
       omega (arith, length-map xs (λ o. o.place), ap length e, length-map os (λ o. o.place), length-take g.owner_count g.owners, k.owner_count),
       (
-        all_unmap (λ n. n < 48) (λ o. o.place) xs (subst (All (λ n. n < 48)) (sym e) (All-map (λ n. n < 48) (λ o. o.place) os k.owners.below)),
+        all_unmap (λ n. n < 48) (λ o. o.place) xs (subst (AllByRecursion (λ n. n < 48)) (sym e) (All-map (λ n. n < 48) (λ o. o.place) os k.owners.below)),
         ap sum f ∙ k.owners.whole,
       ),
     )

@@ -1,6 +1,6 @@
 -- Cents divided over owners, and booked to their places.
 use Rattle.std.proofs.Common.{◌≡◌, ℕ, ◌+◌, ◌<◌, ◌≤◌, Bool, true, false, cond, eqb, List, [], ◌∷◌, map, length, get_or, take, sum_by, sum, sym, refl, ap, ◌∙◌, arith}
-use Rattle.std.specs.List.{AllByRecursion as All}
+use Rattle.std.specs.List.{AllByRecursion}
 use Rattle.std.proofs.ByRecursion.{All-get_or}
 use Rattle.std.proofs.lemmas.List.Sums.{sum_by-cons, sum_by_more}
 use Rattle.dayfile.specs.declared.record.Owner.{Owner}
@@ -32,7 +32,7 @@ booked_more {S} stands holds xs j x place cents i l e s h =
 
 -- what a record holds that was read is as small as all
 pub held_small : {S : Type 0} (holds : S → ℕ) (xs : List S) (j : ℕ) (x : S) (n most : ℕ) → j < length xs → x ≡ get_or xs j x → n ≡ holds x
-    → All (λ y. holds y ≤ most) xs → n ≤ most
+    → AllByRecursion (λ y. holds y ≤ most) xs → n ≤ most
 held_small holds xs j x n most l e h a = omega (arith, ap holds e, All-get_or (λ y. holds y ≤ most) xs j x l a)
 
 -- what was added under a test, and is added under the same test again
@@ -81,18 +81,18 @@ unfolding owned_cents
 owned_nothing i places parts c z = omega (arith, got_within i places (divided c parts), (divided_fair c parts (nothing_divides c parts z)).whole)
 
 -- numbers within their sum
-pub all_within : {S : Type 0} (f : S → ℕ) (xs : List S) (most : ℕ) → sum (map f xs) ≤ most → All (λ x. f x ≤ most) xs
+pub all_within : {S : Type 0} (f : S → ℕ) (xs : List S) (most : ℕ) → sum (map f xs) ≤ most → AllByRecursion (λ x. f x ≤ most) xs
 all_within f [] most h = tt
 all_within f (x ∷ xs) most h =
     let e = sum_by-cons (λ n. n) (f x) (map f xs) in (omega arith, all_within f xs most (omega arith))
 
 -- a function that changes none of the elements
-pub map_same : {S T : Type 0} (f g : S → T) (P : S → Type 0) → ((x : S) → P x → f x ≡ g x) → (xs : List S) → All P xs → map f xs ≡ map g xs
+pub map_same : {S T : Type 0} (f g : S → T) (P : S → Type 0) → ((x : S) → P x → f x ≡ g x) → (xs : List S) → AllByRecursion P xs → map f xs ≡ map g xs
 map_same f g P h [] a = refl
 map_same f g P h (x ∷ xs) a = ap (λ y. y ∷ map f xs) (h x a.0) ∙ ap (λ ys. g x ∷ ys) (map_same f g P h xs a.1)
 
 -- places below 48 and parts within the heaviest weight stand as they are
-pub places_stand : {S : Type 0} (place : S → ℕ) (xs : List S) → All (λ x. place x < 48) xs → map (λ x. placed_at (place x)) xs ≡ map place xs
+pub places_stand : {S : Type 0} (place : S → ℕ) (xs : List S) → AllByRecursion (λ x. place x < 48) xs → map (λ x. placed_at (place x)) xs ≡ map place xs
 places_stand place xs a = map_same (λ x. placed_at (place x)) place (λ x. place x < 48) (λ x l. omega arith) xs a
 
 pub parts_light : {S : Type 0} (parts : S → ℕ) (xs : List S) → sum (map parts xs) ≤ 100000000 → map (λ x. cut (parts x)) xs ≡ map parts xs
@@ -106,7 +106,7 @@ parts_divide parts c xs h = some_divides c (map (λ x. cut (parts x)) xs) (omega
 abbrev taken : OwnerShare → ℕ → OwnerShare
 taken o c = record { place = o.place; parts = o.parts; cents = c }
 
-module _ (c : ℕ) (xs ys : List OwnerShare) (below : All (λ o. o.place < 48) xs) (whole : sum (map (λ o. o.parts) xs) ≡ 1000000)
+module _ (c : ℕ) (xs ys : List OwnerShare) (below : AllByRecursion (λ o. o.place < 48) xs) (whole : sum (map (λ o. o.parts) xs) ≡ 1000000)
     (only : ys ≡ handed taken xs (map (λ o. o.cents) ys))
     (held : map (λ o. o.cents) ys ≡ divided c (map (λ o. cut o.parts) xs)) where
   kept : {X : Type 0} (f : OwnerShare → X) → ((o : OwnerShare) (n : ℕ) → f (taken o n) ≡ f o) → map f ys ≡ map f xs
@@ -130,6 +130,6 @@ module _ (c : ℕ) (xs ys : List OwnerShare) (below : All (λ o. o.place < 48) x
       ∙ ap (got i (map (λ o. o.place) xs)) held_by_parts
 
   -- each holds no more than the cents
-  pub held_within : (most : ℕ) → c ≤ most → All (λ o. o.cents ≤ most) ys
+  pub held_within : (most : ℕ) → c ≤ most → AllByRecursion (λ o. o.cents ≤ most) ys
   held_within most l =
       all_within (λ o. o.cents) ys most (omega (arith, ap sum held_by_parts, divided_whole c (map (λ o. o.parts) xs) (omega arith)))

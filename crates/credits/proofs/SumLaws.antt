@@ -1,6 +1,6 @@
 -- The credits of a day add up, and so do a Resource's hours.
 use Rattle.std.proofs.Common.{◌≡◌, ℕ, ◌+◌, ◌-◌, ◌<◌, ◌≤◌, cond, eqb, List, [], ◌∷◌, length, get_or, ℤ, Some, None, sum_by, sum, Option, sym, refl, ◌∙◌, subst, arith}
-use Rattle.std.specs.List.{AllByRecursion as All}
+use Rattle.std.specs.List.{AllByRecursion}
 use Rattle.std.proofs.lemmas.List.FromFn.{length-map-range_with_len}
 use Rattle.std.proofs.ByRecursion.{All-map, All-weaker}
 use Rattle.std.proofs.lemmas.List.{length-map}
@@ -33,10 +33,10 @@ use Rattle.credits.proofs.Days.{resources_kept}
 use Rattle.credits.proofs.PeriodLaws.{real_time_by_periods}
 use Rattle.credits.proofs.Rows.{zeros_at}
 use Rattle.credits.proofs.Sharing.{divided_whole}
-use Rattle.credits.proofs.Totals.{total_same, total_zero, total_add, total_swap, total_sumBy, total_one, total_list}
+use Rattle.credits.proofs.Totals.{total_same, total_zero, total_add, total_swap, total_sum_by, total_one, total_list}
 
 -- shares that go to places below n are what all places below n get, and a place from n on gets nothing
-pub got_total : (n : ℕ) (ps ss : List ℕ) → All (λ p. p < n) ps → length ss ≡ length ps → total (λ i. got i ps ss) n ≡ sum ss
+pub got_total : (n : ℕ) (ps ss : List ℕ) → AllByRecursion (λ p. p < n) ps → length ss ≡ length ps → total (λ i. got i ps ss) n ≡ sum ss
 unfolding got
 got_total n [] [] a e = total_zero (λ i. 0) n (λ i _. refl)
 got_total n [] (s ∷ ss) a e = absurd (omega arith)
@@ -50,7 +50,7 @@ got_total n (p ∷ ps) (s ∷ ss) a e =
       sum_by-cons (λ x. x) s ss,
     )
 
-pub got_beyond : (n i : ℕ) (ps ss : List ℕ) → All (λ p. p < n) ps → n ≤ i → got i ps ss ≡ 0
+pub got_beyond : (n i : ℕ) (ps ss : List ℕ) → AllByRecursion (λ p. p < n) ps → n ≤ i → got i ps ss ≡ 0
 unfolding got
 got_beyond n i [] ss a l = refl
 got_beyond n i (p ∷ ps) [] a l = refl
@@ -59,7 +59,7 @@ got_beyond n i (p ∷ ps) (s ∷ ss) a l =
 
 -- a Resource whose owners lie among n participants
 module _ (n : ℕ) (x : ResourceDay) (k : Kept n x) where
-  places_below : All (λ p. p < n) (owner_places x.resource)
+  places_below : AllByRecursion (λ p. p < n) (owner_places x.resource)
   places_below = All-map (λ p. p < n) (λ o. o.place) (owners_of x.resource) k.resource.owners.below
 
   pub owners_whole : SharedWhole n x
@@ -83,14 +83,14 @@ module _ (n : ℕ) (x : ResourceDay) (k : Kept n x) where
       total_zero (λ h. owned_cents i (owner_places x.resource) (owner_parts x.resource) (cell x h p)) 24
       (λ h _. got_beyond n i (owner_places x.resource) (divided (cell x h p) (owner_parts x.resource)) places_below l)
 
-sumBy_zero : {X : Type 0} (f : X → ℕ) (xs : List X) → All (λ x. f x ≡ 0) xs → sum_by f xs ≡ 0
-sumBy_zero f [] a = refl
-sumBy_zero f (x ∷ xs) a = omega (arith, sum_by-cons f x xs, a.0, sumBy_zero f xs a.1)
+sum_by_zero : {X : Type 0} (f : X → ℕ) (xs : List X) → AllByRecursion (λ x. f x ≡ 0) xs → sum_by f xs ≡ 0
+sum_by_zero f [] a = refl
+sum_by_zero f (x ∷ xs) a = omega (arith, sum_by-cons f x xs, a.0, sum_by_zero f xs a.1)
 
 -- THE CREDITS OF A DAY ADD UP, over any n places among which the owners lie
-pub pool_whole : (f : List ℕ) (n p : ℕ) → All (Kept n) (resources_of f) → total (λ i. credit_of f i p) n ≡ pool_cost f p
+pub pool_whole : (f : List ℕ) (n p : ℕ) → AllByRecursion (Kept n) (resources_of f) → total (λ i. credit_of f i p) n ≡ pool_cost f p
 unfolding credit_of pool_cost
-pool_whole f n p a = total_sumBy (λ i. resource_credit i p) n (resource_cost p) (Kept n) (λ x k. credit_whole n x k p) (resources_of f) a
+pool_whole f n p a = total_sum_by (λ i. resource_credit i p) n (resource_cost p) (Kept n) (λ x k. credit_whole n x k p) (resources_of f) a
 
 pub credits_add_up : (f : List ℕ) → Formed f → CreditsAddUp f
 unfolding credit_of
@@ -99,7 +99,7 @@ credits_add_up f w =
     let kept = resources_kept f w in
     record {
       pools = λ p. pool_whole f n p kept;
-      beyond = λ i p l. sumBy_zero (resource_credit i p) (resources_of f) (All-weaker (Kept n) (λ x. resource_credit i p x ≡ 0) (λ x k. credit_beyond n x k i p l) (resources_of f) kept);
+      beyond = λ i p l. sum_by_zero (resource_credit i p) (resources_of f) (All-weaker (Kept n) (λ x. resource_credit i p x ≡ 0) (λ x k. credit_beyond n x k i p l) (resources_of f) kept);
       owners = All-weaker (Kept n) (SharedWhole n) (owners_whole n) (resources_of f) kept;
     }
 
@@ -180,7 +180,7 @@ periods_of : (g : ResourceRecord) (o : Option RealTimeRecord) → OwnRealTimeKep
 periods_of g None k = tt
 periods_of g (Some r) k = real_time_by_periods g r k.events
 
-pub day_lawful : (f : List ℕ) → Formed f → All LawfulCredits (resources_of f)
+pub day_lawful : (f : List ℕ) → Formed f → AllByRecursion LawfulCredits (resources_of f)
 day_lawful f w =
     let n = length (participants_of f) in
     All-weaker (Kept n) LawfulCredits

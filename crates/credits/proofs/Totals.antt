@@ -1,6 +1,6 @@
 -- Sums over the first hours, places or pools.
 use Rattle.std.proofs.Common.{◌≡◌, ℕ, zero, suc, ◌+◌, ◌<◌, Bool, true, false, cond, List, [], ◌∷◌, length, get_or, sum_by, sum, sym, refl, ap, ◌∙◌, inl, inr, add-one, arith}
-use Rattle.std.specs.List.{AllByRecursion as All}
+use Rattle.std.specs.List.{AllByRecursion}
 use Rattle.std.proofs.lemmas.List.Sums.{sum_by-cons}
 use Rattle.std.proofs.lemmas.Bool.{cases_eq, cond-true, cond-false}
 use Rattle.division.proofs.Tallies.{tally, sum_tally}
@@ -31,12 +31,12 @@ unfolding total
 total_swap f m zero = total_zero (λ i. 0) m (λ i _. refl)
 total_swap f m (suc n) = omega (arith, total_add (λ i. total (f i) n) (λ i. f i n) m, total_swap f m n)
 
-pub total_sumBy : {X : Type 0} (f : ℕ → X → ℕ) (n : ℕ) (g : X → ℕ) (P : X → Type 0) → ((x : X) → P x → total (λ i. f i x) n ≡ g x)
-    → (xs : List X) → All P xs → total (λ i. sum_by (f i) xs) n ≡ sum_by g xs
-total_sumBy f n g P h [] a = total_zero (λ i. 0) n (λ i _. refl)
-total_sumBy f n g P h (x ∷ xs) a =
+pub total_sum_by : {X : Type 0} (f : ℕ → X → ℕ) (n : ℕ) (g : X → ℕ) (P : X → Type 0) → ((x : X) → P x → total (λ i. f i x) n ≡ g x)
+    → (xs : List X) → AllByRecursion P xs → total (λ i. sum_by (f i) xs) n ≡ sum_by g xs
+total_sum_by f n g P h [] a = total_zero (λ i. 0) n (λ i _. refl)
+total_sum_by f n g P h (x ∷ xs) a =
     total_same (λ i. sum_by (f i) (x ∷ xs)) (λ i. f i x + sum_by (f i) xs) n (λ i _. sum_by-cons (f i) x xs)
-    ∙ omega (arith, total_add (λ i. f i x) (λ i. sum_by (f i) xs) n, h x a.0, total_sumBy f n g P h xs a.1, sum_by-cons g x xs)
+    ∙ omega (arith, total_add (λ i. f i x) (λ i. sum_by (f i) xs) n, h x a.0, total_sum_by f n g P h xs a.1, sum_by-cons g x xs)
 
 -- an amount that stands at one place only is the sum
 pub total_one : (test : ℕ → Bool) (amount k n : ℕ) → k < n → test k ≡ true → ((j : ℕ) → (j ≡ k → ⊥) → test j ≡ false) → total (λ j. cond (test j) amount 0) n ≡ amount

@@ -1,6 +1,6 @@
 -- What adds up in the credits of a day.
 use Rattle.std.specs.Prelude.{◌≡◌, ℕ, ◌+◌, ◌≤◌, List, length, Some, None, sum, Option, slice_index}
-use Rattle.std.specs.List.{AllByRecursion as All}
+use Rattle.std.specs.List.{AllByRecursion}
 use Rattle.dayfile.specs.declared.record.ResourceRecord.{ResourceRecord}
 use Rattle.dayfile.specs.declared.record.RealTimeRecord.{RealTimeRecord}
 use Rattle.credits.specs.declared.pool.Market.{Market}
@@ -25,7 +25,7 @@ SharedWhole n x = (cents : ℕ) → total (λ i. owned_cents i (owner_places x.r
 pub record CreditsAddUp (f : List ℕ) : Type 0 where
   pub pools : (p : ℕ) → total (λ i. credit_of f i p) (length (participants_of f)) ≡ pool_cost f p
   pub beyond : (i p : ℕ) → length (participants_of f) ≤ i → credit_of f i p ≡ 0
-  pub owners : All (SharedWhole (length (participants_of f))) (resources_of f)
+  pub owners : AllByRecursion (SharedWhole (length (participants_of f))) (resources_of f)
 
 -- no pool of an accepted day costs more than a sheet holds
 abbrev pub CostsWithin : List ℕ → Type 0

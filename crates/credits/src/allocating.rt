@@ -1,6 +1,6 @@
 //! The hourly grid of a Resource.
 ghost use Rattle.std.specs.Prelude.{◌≡◌, ◌<◌, ◌≤◌, replicate};
-ghost use Rattle.std.specs.List.{AllByRecursion as All};
+ghost use Rattle.std.specs.List.{AllByRecursion};
 ghost use Rattle.credits.specs.Resources.{Kept, resources_of};
 ghost use Rattle.credits.specs.Grids.{market_pool, cell, by_pool, grid_of, Allotted};
 ghost use Rattle.credits.specs.Crediting.{Allocates};
@@ -78,7 +78,7 @@ fn grid_of(unit: &ResourceDay, cents: &HourlyCents) -> Grid
 /// caller's grid stays as it was.
 pub fn hourly_allocation(day: &AdmittedDay<'_>, resource: u32, grid: &mut Grid) -> Result<(), Fault>
     ensures outcome { Allocates day.now.file.now resource grid.old result grid.new }
-    ensures lawful { All LawfulCredits (resources_of day.now.file.now) }
+    ensures lawful { AllByRecursion LawfulCredits (resources_of day.now.file.now) }
 {
     let Some(found) = find_resource(day, resource) else {
         return Err(Fault::NoResource);

@@ -1,6 +1,6 @@
 //! A Resource's cents in each hour of both markets.
 ghost use Rattle.std.specs.Prelude.{◌≡◌, ◌≤◌, Some, None, MatchResult};
-ghost use Rattle.std.specs.List.{AllByRecursion as All};
+ghost use Rattle.std.specs.List.{AllByRecursion};
 ghost use Rattle.credits.specs.Resources.{Kept};
 ghost use Rattle.credits.specs.Grids.{stopped, Allotted};
 

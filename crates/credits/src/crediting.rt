@@ -1,6 +1,6 @@
 //! The credits of a day.
 ghost use Rattle.std.specs.Prelude.{◌≡◌, ℕ, ◌+◌, ◌^◌, ◌<◌, ◌≤◌, map, length, replicate, Some, None, OnOk, slice_index};
-ghost use Rattle.std.specs.List.{range_with_len, AllByRecursion as All};
+ghost use Rattle.std.specs.List.{range_with_len, AllByRecursion};
 ghost use Rattle.credits.specs.Resources.{Kept, resources_of};
 ghost use Rattle.credits.specs.Grids.{stopped, Allotted, amount, Wide, Below};
 ghost use Rattle.dayfile.specs.Files.{answer as refused_by};
@@ -151,7 +151,7 @@ fn name_participants(day: &AdmittedDay<'_>, participants: &mut [u32]) -> usize
 pub fn credit(day: &AdmittedDay<'_>, credits: &mut Credits) -> Result<(), Fault>
     ensures outcome { CreditsDay day.now.file.now credits.old result credits.new }
     ensures adds_up { CreditsAddUp day.now.file.now }
-    ensures lawful { All LawfulCredits (resources_of day.now.file.now) }
+    ensures lawful { AllByRecursion LawfulCredits (resources_of day.now.file.now) }
     ensures costs_within { OnOk result (CostsWithin day.now.file.now) }
 {
     let mut amounts = [PoolAmounts::none(); PLACES];

@@ -1,6 +1,6 @@
 //! The day-ahead credit of a Resource.
 ghost use Rattle.std.specs.Prelude.{◌≡◌, ◌<◌, ◌≤◌, length, pos, neg_ℤ, ◌≤ℤ◌};
-ghost use Rattle.std.specs.List.{AllByRecursion as All};
+ghost use Rattle.std.specs.List.{AllByRecursion};
 ghost use Rattle.dayfile.specs.Keeping.{ResourceKept};
 ghost use Rattle.credits.specs.Sums.{net};
 ghost use Rattle.credits.specs.DayAhead.{scheduled, running_before, start_fee, day_ahead_hour, day_ahead_shares, day_ahead_cents};
@@ -84,7 +84,7 @@ fn claim(resource: &ResourceRecord, hours: &mut [HourShare]) -> i64
 pub(crate) fn allocate_day_ahead(resource: &ResourceRecord) -> [u64; 24]
     requires { ResourceKept 48 resource.now }
     ensures value { result ≡ day_ahead_cents resource.now }
-    ensures small { All (λ c. c ≤ 100000000000) result }
+    ensures small { AllByRecursion (λ c. c ≤ 100000000000) result }
 {
     let mut hours = [NO_SHARE; 24];
     let sum = claim(resource, &mut hours);

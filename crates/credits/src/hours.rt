@@ -1,6 +1,6 @@
 //! A credit allotted to the hours that share it.
 ghost use Rattle.std.specs.Prelude.{◌≡◌, ◌<◌, ◌≤◌, Bool, map, length, pos, ◌≤ℤ◌, if◌then◌else◌, sum_by, count_by, refl};
-ghost use Rattle.std.specs.List.{AllByRecursion as All};
+ghost use Rattle.std.specs.List.{AllByRecursion};
 ghost use Rattle.credits.specs.Allotments.{shared_kwh, level, allotted};
 ghost use Rattle.credits.specs.Weighing.{cut, cut_if_light};
 
@@ -35,7 +35,7 @@ impl Weighted for HourShare {
 
 /// The kWh of the hours that share.
 fn kwh_shared(hours: &[HourShare]) -> u64
-    requires { (length hours.now ≡ 24) × (All (λ x. x.kwh ≤ 2000000) hours.now) }
+    requires { (length hours.now ≡ 24) × (AllByRecursion (λ x. x.kwh ≤ 2000000) hours.now) }
     ensures { result ≡ sum_by shared_kwh hours.now }
 {
     let mut total = 0;
@@ -71,9 +71,9 @@ fn level_out(hours: &mut [HourShare])
 
 /// Divides a credit in millicents over the hours that share it: each gets its cents.
 pub(crate) fn allot(amount: i64, hours: &mut [HourShare])
-    requires { (amount ≤ℤ pos 100000000000000) × ((length hours.old ≡ 24) × (All (λ x. x.kwh ≤ 2000000) hours.old)) }
+    requires { (amount ≤ℤ pos 100000000000000) × ((length hours.old ≡ 24) × (AllByRecursion (λ x. x.kwh ≤ 2000000) hours.old)) }
     ensures value { map (λ x. x.cents) hours.new ≡ allotted amount hours.old }
-    ensures small { All (λ x. x.cents ≤ 100000000000) hours.new }
+    ensures small { AllByRecursion (λ x. x.cents ≤ 100000000000) hours.new }
 {
     if kwh_shared(hours) == 0 {
         level_out(hours);

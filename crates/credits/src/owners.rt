@@ -1,6 +1,6 @@
 //! An hour's cents divided over a Resource's owners.
 ghost use Rattle.std.specs.Prelude.{◌≡◌, ℕ, ◌+◌, ◌<◌, ◌≤◌, map, length, if◌then◌else◌, sum, nat_eq, refl};
-ghost use Rattle.std.specs.List.{AllByRecursion as All};
+ghost use Rattle.std.specs.List.{AllByRecursion};
 ghost use Rattle.credits.specs.Weighing.{cut, cut_light, placed_at, placed_below};
 ghost use Rattle.credits.specs.Grids.{amount, Wide, Below};
 ghost use Rattle.credits.specs.Owning.{owned_cents, of_owner, booked};
@@ -80,7 +80,7 @@ pub(crate) fn owners_of(resource: &ResourceRecord) -> [OwnerShare; 8]
 fn book<T: Sharing>(records: &[T], pool: usize, amounts: &mut [PoolAmounts])
     requires pool { (1 ≤ pool) × (pool ≤ 21) }
     requires rows { (Wide 48 amounts.old) × (length records.now ≤ 48) }
-    requires small { (Below 1000000000000000000 amounts.old) × (All (λ x. T.Weighted.holds x ≤ 100000000000) records.now) }
+    requires small { (Below 1000000000000000000 amounts.old) × (AllByRecursion (λ x. T.Weighted.holds x ≤ 100000000000) records.now) }
     ensures wide { Wide 48 amounts.new }
     ensures booked { (i p : ℕ) → i < 48 → 1 ≤ p → p ≤ 21 → amount amounts.new i p ≡ amount amounts.old i p + (if nat_eq p pool then booked T.Placed.stands T.Weighted.holds i records.now else 0) }
 {
@@ -98,7 +98,7 @@ pub(crate) fn share_out(
 )
     requires pool { (1 ≤ pool) × (pool ≤ 21) }
     requires rows { Wide 48 amounts.old }
-    requires owners { (length owners.old ≤ 8) × ((All (λ o. o.place < 48) owners.old) × (sum (map (λ o. o.parts) owners.old) ≡ 1000000)) }
+    requires owners { (length owners.old ≤ 8) × ((AllByRecursion (λ o. o.place < 48) owners.old) × (sum (map (λ o. o.parts) owners.old) ≡ 1000000)) }
     requires small { (Below 500000000000000000 amounts.old) × (cents ≤ 100000000000) }
     ensures wide { Wide 48 amounts.new }
     ensures grown { (most : ℕ) → Below most amounts.old → Below (most + 100000000000) amounts.new }

@@ -1,6 +1,6 @@
 //! The real-time credit of a Resource.
 ghost use Rattle.std.specs.Prelude.{◌≡◌, ◌*◌, ◌<◌, ◌≤◌, length, pos, ◌-ℤ◌, neg_ℤ, ◌≤ℤ◌, IfOk, if◌then◌else◌, Some, None, MatchResult, nat_eq};
-ghost use Rattle.std.specs.List.{AllByRecursion as All};
+ghost use Rattle.std.specs.List.{AllByRecursion};
 ghost use Rattle.dayfile.specs.Keeping.{ResourceKept, RealTimeKept};
 ghost use Rattle.credits.specs.Cents.{millicents};
 ghost use Rattle.credits.specs.DayAhead.{cleared};
@@ -129,7 +129,7 @@ pub(crate) fn allocate_real_time(
 ) -> Result<[u64; 24], u8>
     requires { (ResourceKept 48 resource.now) × (RealTimeKept real_time.now) }
     ensures value { MatchResult result (λ c. (forbidden_hour resource.now real_time.now 24 ≡ None) × (c ≡ real_time_cents resource.now real_time.now)) (λ h. forbidden_hour resource.now real_time.now 24 ≡ Some h) }
-    ensures small { IfOk result (λ c. All (λ x. x ≤ 100000000000) c) }
+    ensures small { IfOk result (λ c. AllByRecursion (λ x. x ≤ 100000000000) c) }
 {
     let mut hours = [NO_SHARE; 24];
     let amount = walk_through(resource, real_time, &mut hours)?;

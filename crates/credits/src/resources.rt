@@ -1,6 +1,6 @@
 //! The Resources of an admitted day.
 ghost use Rattle.std.specs.Prelude.{◌≡◌, ◌^◌, ◌<◌, length, drop, is_some, IfSome};
-ghost use Rattle.std.specs.List.{AllByRecursion as All};
+ghost use Rattle.std.specs.List.{AllByRecursion};
 ghost use Rattle.dayfile.specs.Days.{records};
 ghost use Rattle.credits.specs.Resources.{real_time_first, resource_first, of_resource, resources_of, numbered, Kept};
 ghost use Rattle.credits.specs.Crediting.{participants_of};
@@ -63,7 +63,7 @@ pub(crate) fn resource_at(day: &AdmittedDay<'_>, k: usize) -> Option<ResourceDay
 pub(crate) fn find_resource(day: &AdmittedDay<'_>, number: u32) -> Option<ResourceDay>
     ensures value { result ≡ numbered number (resources_of day.now.file.now) }
     ensures kept { IfSome result (Kept 48) }
-    ensures lawful { All LawfulCredits (resources_of day.now.file.now) }
+    ensures lawful { AllByRecursion LawfulCredits (resources_of day.now.file.now) }
 {
     for k in 0..day.blocks() {
         if let Some(found) = resource_at(day, k) {

@@ -1,7 +1,7 @@
 -- What was read is written again: each part, each row of parts, each kind of record.
 use Rattle.std.proofs.Common.{◌≡◌, ℕ, zero, suc, ◌+◌, ◌*◌, ◌^◌, ◌<◌, ◌≤◌, leb, ◌⊎◌, List, [], ◌∷◌, ◌++◌, length, get_or, take, drop, None, sym, refl, ap, ◌∙◌, subst, inl, inr, arith, take-add, w32, SFits}
 use borrow.Author.Gap.{read_sfits}
-use Rattle.std.specs.List.{flat_map, AllByRecursion as All}
+use Rattle.std.specs.List.{flat_map, AllByRecursion}
 use Rattle.std.proofs.lemmas.List.{drop-drop, length-drop, length-take-le, length-replicate, length-take, take_all, get_or_past, get_or-take, get_or-drop, get_or-replicate, ext_get_or}
 use Rattle.std.proofs.lemmas.Int.{of_z-to_z}
 use Rattle.std.proofs.lemmas.Bool.{cases_lt, and_parts, eqb-true, leb-true}
@@ -238,7 +238,7 @@ module _ (b : List ℕ) (h : Bytes b) where
   row_fits : (at n j k w : ℕ) → value k w (drop j (part at n b)) < 256 ^ w
   row_fits at n j k w = value_lt k w (drop j (part at n b)) (bytes_drop j (part at n b) (bytes_part b h at n))
 
-  all_signed : (at n w k : ℕ) → All (SFits w32) (each signed_from w k (part at n b))
+  all_signed : (at n w k : ℕ) → AllByRecursion (SFits w32) (each signed_from w k (part at n b))
   all_signed at n w k = all_each (SFits w32) signed_from w k (part at n b) (λ i s. read_sfits w32 (value 0 4 (drop (i * w) (part at n b))))
 
   pub day_fits : Fitting (Day (day_of b))

@@ -1,6 +1,6 @@
 -- What is written reads back: each part, each row of parts, each kind of record.
 use Rattle.std.proofs.Common.{◌≡◌, ℕ, ◌+◌, ◌*◌, ◌%◌, ◌^◌, ◌<◌, List, [], ◌∷◌, ◌++◌, length, get_or, take, drop, ℤ, sym, refl, ap, ◌∙◌, arith, w32, SFits, to_z, of_z}
-use Rattle.std.specs.List.{flat_map, AllByRecursion as All}
+use Rattle.std.specs.List.{flat_map, AllByRecursion}
 use Rattle.std.proofs.lemmas.List.{append-nil, take_at, drop_at, drop-drop}
 use Rattle.std.proofs.lemmas.Int.{to_z-of_z, ints}
 use Rattle.dayfile.specs.declared.record.DayRecord.{DayRecord}
@@ -92,7 +92,7 @@ hour_back h rest f =
 -- THE ROWS: n parts in k bytes
 row_back : {A : Type 0} (Good : A → Type 0) (read : List ℕ → A) (write : A → List ℕ) (w n k : ℕ)
     → ((x : A) (rest : List ℕ) → Good x → read (write x ++ rest) ≡ x) → ((x : A) → length (write x) ≡ w) → n * w ≡ k
-    → (xs : List A) (rest : List ℕ) → length xs ≡ n → All Good xs → each read w n (take k (flat_map write xs ++ rest)) ≡ xs
+    → (xs : List A) (rest : List ℕ) → length xs ≡ n → AllByRecursion Good xs → each read w n (take k (flat_map write xs ++ rest)) ≡ xs
 row_back Good read write w n k back long e xs rest l a =
     let m = length_joined write w long xs ∙ ap (λ j. j * w) l ∙ e in
     ap (each read w n) (take_at (flat_map write xs) rest k m ∙ sym (append-nil (flat_map write xs)))
@@ -100,14 +100,14 @@ row_back Good read write w n k back long e xs rest l a =
     ∙ each_joined Good read write w back long xs [] a
 
 -- the parts that have no limits of their own
-all_plain : {A : Type 0} (xs : List A) → All (λ _. Unit {0}) xs
+all_plain : {A : Type 0} (xs : List A) → AllByRecursion (λ _. Unit {0}) xs
 all_plain [] = tt
 all_plain (x ∷ xs) = (tt, all_plain xs)
 
-pub words_back : (xs rest : List ℕ) → length xs ≡ 24 → All (λ n. n < 2 ^ 32) xs → each word_from 4 24 (take 96 (flat_map word_bytes xs ++ rest)) ≡ xs
+pub words_back : (xs rest : List ℕ) → length xs ≡ 24 → AllByRecursion (λ n. n < 2 ^ 32) xs → each word_from 4 24 (take 96 (flat_map word_bytes xs ++ rest)) ≡ xs
 words_back = row_back (λ n. n < 2 ^ 32) word_from word_bytes 4 24 96 word_back word_long refl
 
-pub signeds_back : (xs : List ℤ) (rest : List ℕ) → length xs ≡ 24 → All (SFits w32) xs → each signed_from 4 24 (take 96 (flat_map signed_bytes xs ++ rest)) ≡ xs
+pub signeds_back : (xs : List ℤ) (rest : List ℕ) → length xs ≡ 24 → AllByRecursion (SFits w32) xs → each signed_from 4 24 (take 96 (flat_map signed_bytes xs ++ rest)) ≡ xs
 signeds_back = row_back (SFits w32) signed_from signed_bytes 4 24 96 signed_back signed_long refl
 
 pub flags_back : (xs : List Flag) (rest : List ℕ) → length xs ≡ 24 → each flag_from 1 24 (take 24 (flat_map flag_bytes xs ++ rest)) ≡ xs
@@ -116,13 +116,13 @@ flags_back xs rest l = row_back (λ _. Unit {0}) flag_from flag_bytes 1 24 24 fl
 pub events_back : (xs : List Event) (rest : List ℕ) → length xs ≡ 24 → each event_from 1 24 (take 24 (flat_map event_bytes xs ++ rest)) ≡ xs
 events_back xs rest l = row_back (λ _. Unit {0}) event_from event_bytes 1 24 24 event_back event_long refl xs rest l (all_plain xs)
 
-pub loads_back : (xs : List Load) (rest : List ℕ) → length xs ≡ 8 → All LoadFits xs → each load_from 12 8 (take 96 (flat_map load_bytes xs ++ rest)) ≡ xs
+pub loads_back : (xs : List Load) (rest : List ℕ) → length xs ≡ 8 → AllByRecursion LoadFits xs → each load_from 12 8 (take 96 (flat_map load_bytes xs ++ rest)) ≡ xs
 loads_back = row_back LoadFits load_from load_bytes 12 8 96 load_back load_long refl
 
-pub owners_back : (xs : List Owner) (rest : List ℕ) → length xs ≡ 8 → All OwnerFits xs → each owner_from 6 8 (take 48 (flat_map owner_bytes xs ++ rest)) ≡ xs
+pub owners_back : (xs : List Owner) (rest : List ℕ) → length xs ≡ 8 → AllByRecursion OwnerFits xs → each owner_from 6 8 (take 48 (flat_map owner_bytes xs ++ rest)) ≡ xs
 owners_back = row_back OwnerFits owner_from owner_bytes 6 8 48 owner_back owner_long refl
 
-pub hours_back : (xs : List RealTimeHour) (rest : List ℕ) → length xs ≡ 24 → All HourFits xs → each hour_from 12 24 (take 288 (flat_map hour_bytes xs ++ rest)) ≡ xs
+pub hours_back : (xs : List RealTimeHour) (rest : List ℕ) → length xs ≡ 24 → AllByRecursion HourFits xs → each hour_from 12 24 (take 288 (flat_map hour_bytes xs ++ rest)) ≡ xs
 hours_back = row_back HourFits hour_from hour_bytes 12 24 288 hour_back hour_long refl
 
 -- what follows n parts of k bytes

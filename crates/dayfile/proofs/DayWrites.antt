@@ -1,6 +1,6 @@
 -- Writing an admitted day: no record of it is refused, and each turn writes its block.
 use Rattle.std.proofs.Common.{◌≡◌, ℕ, ◌+◌, ◌-◌, ◌*◌, ◌<◌, ◌≤◌, Bool, true, false, cond, ltb, List, [], ◌∷◌, ◌++◌, length, take, drop, Some, None, Ok, Err, Option, Result, sym, refl, ap, ◌∙◌, subst, append-nil, arith, take-add}
-use Rattle.std.specs.List.{flat_map, AllByRecursion as All}
+use Rattle.std.specs.List.{flat_map, AllByRecursion}
 use Rattle.std.proofs.lemmas.List.{append_assoc, length-append, length-take-le, length-drop, drop-drop, drop_all, take_at, drop_at, take_all}
 use Rattle.std.proofs.lemmas.Bool.{cond-true, cond-false, le-ltb, lt-ltb}
 use Rattle.dayfile.specs.declared.fault.Fault.{Fault}
@@ -19,7 +19,7 @@ use Rattle.dayfile.proofs.OwnerRules.{kept_owned, owned_kept}
 use Rattle.dayfile.proofs.Chains.{BlockGood, block_good, bytes_take}
 use Rattle.dayfile.proofs.FileLaws.{Passed, block_none, few_participants, records_again}
 
-all_like : {A : Type 0} (P Q : A → Type 0) (xs : List A) → ((x : A) → P x → Q x) → All P xs → All Q xs
+all_like : {A : Type 0} (P Q : A → Type 0) (xs : List A) → ((x : A) → P x → Q x) → AllByRecursion P xs → AllByRecursion Q xs
 all_like P Q [] h a = tt
 all_like P Q (x ∷ xs) h a = (h x a.0, all_like P Q xs h a.1)
 

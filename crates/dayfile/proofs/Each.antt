@@ -1,6 +1,6 @@
 -- Parts of equal width, one after the other.
 use Rattle.std.proofs.Common.{◌≡◌, ℕ, zero, suc, ◌+◌, ◌*◌, ◌<◌, ◌≤◌, List, [], ◌∷◌, ◌++◌, length, get_or, take, drop, set, sym, refl, ap, ◌∙◌, subst, le_refl, suc-mul, mul-le-mul, zero-mul, arith, take-add}
-use Rattle.std.specs.List.{flat_map, AllByRecursion as All}
+use Rattle.std.specs.List.{flat_map, AllByRecursion}
 use Rattle.std.proofs.lemmas.List.{append_assoc, length-append, length-drop, drop-drop, drop_at, take_more_set}
 use Rattle.dayfile.specs.Bytes.{each}
 
@@ -15,11 +15,11 @@ shifted w i bs = let e : w + i * w ≡ suc i * w = omega (arith, suc-mul i w) in
 unshifted : (w : ℕ) (bs : List ℕ) → drop (0 * w) bs ≡ bs
 unshifted w bs = ap (λ k. drop k bs) (zero-mul w)
 
-pub getD_each : {A : Type 0} (read : List ℕ → A) (w n : ℕ) (bs : List ℕ) (i : ℕ) (d : A) → i < n → get_or (each read w n bs) i d ≡ read (drop (i * w) bs)
+pub get_or_each : {A : Type 0} (read : List ℕ → A) (w n : ℕ) (bs : List ℕ) (i : ℕ) (d : A) → i < n → get_or (each read w n bs) i d ≡ read (drop (i * w) bs)
 unfolding each
-getD_each read w zero bs i d h = absurd (omega arith)
-getD_each read w (suc n) bs zero d h = sym (ap read (unshifted w bs))
-getD_each read w (suc n) bs (suc i) d h = getD_each read w n (drop w bs) i d (omega arith) ∙ ap read (shifted w i bs)
+get_or_each read w zero bs i d h = absurd (omega arith)
+get_or_each read w (suc n) bs zero d h = sym (ap read (unshifted w bs))
+get_or_each read w (suc n) bs (suc i) d h = get_or_each read w n (drop w bs) i d (omega arith) ∙ ap read (shifted w i bs)
 
 -- one part more at the end
 pub each_more : {A : Type 0} (read : List ℕ → A) (w n : ℕ) (bs : List ℕ) → each read w (n + 1) bs ≡ each read w n bs ++ (read (drop (n * w) bs) ∷ [])
@@ -38,7 +38,7 @@ length_joined write w long (x ∷ xs) =
 -- what is written reads back
 pub each_joined : {A : Type 0} (Good : A → Type 0) (read : List ℕ → A) (write : A → List ℕ) (w : ℕ)
     → ((x : A) (rest : List ℕ) → Good x → read (write x ++ rest) ≡ x) → ((x : A) → length (write x) ≡ w)
-    → (xs : List A) (rest : List ℕ) → All Good xs → each read w (length xs) (flat_map write xs ++ rest) ≡ xs
+    → (xs : List A) (rest : List ℕ) → AllByRecursion Good xs → each read w (length xs) (flat_map write xs ++ rest) ≡ xs
 unfolding each
 each_joined Good read write w back long [] rest h = refl
 each_joined Good read write w back long (x ∷ xs) rest h =
@@ -65,7 +65,7 @@ joined_each read write w (suc n) bs l h =
     ∙ ap (λ k. take k bs) e
 
 -- what holds of each part that is read
-pub all_each : {A : Type 0} (P : A → Type 0) (read : List ℕ → A) (w n : ℕ) (bs : List ℕ) → ((i : ℕ) → i < n → P (read (drop (i * w) bs))) → All P (each read w n bs)
+pub all_each : {A : Type 0} (P : A → Type 0) (read : List ℕ → A) (w n : ℕ) (bs : List ℕ) → ((i : ℕ) → i < n → P (read (drop (i * w) bs))) → AllByRecursion P (each read w n bs)
 unfolding each
 all_each P read w zero bs h = tt
 all_each P read w (suc n) bs h = (

@@ -1,6 +1,6 @@
 -- The block of a record: its length, its bytes, its letter, its check.
 use Rattle.std.proofs.Common.{◌≡◌, ℕ, zero, suc, ◌+◌, ◌*◌, ◌^◌, ◌<◌, ◌≤◌, true, List, [], ◌∷◌, ◌++◌, length, get_or, take, sym, refl, ap, ◌∙◌, mul-le-mul, mul-suc, arith}
-use Rattle.std.specs.List.{flat_map, AllByRecursion as All}
+use Rattle.std.specs.List.{flat_map, AllByRecursion}
 use Rattle.std.proofs.lemmas.List.{append-nil, length-append, length-replicate, take_at, drop_at, take_all, drop_all, get_or-take}
 use Rattle.std.proofs.ByRecursion.{All-append}
 use Rattle.std.proofs.lemmas.Bool.{eq-eqb}
@@ -110,7 +110,7 @@ encode_fault r f = fault_of_body r (encode r) (body_front r f)
 
 -- THE BYTES: all are below 256
 abbrev Small : List ℕ → Type 0
-Small bs = All (λ b. b < 256) bs
+Small bs = AllByRecursion (λ b. b < 256) bs
 
 small_zeros : (n : ℕ) → Small (zeros n)
 small_zeros zero = tt

@@ -3,7 +3,7 @@ use Rattle.std.proofs.Common.{◌≡◌, ℕ, zero, suc, ◌+◌, ◌-◌, ◌*�
 use mir.ValLaws.{to_z-neg}
 use Rattle.std.proofs.lemmas.Int.{of_z-to_z, ints}
 use Rattle.std.proofs.lemmas.Bool.{cond-false, eq-eqb, ne_eqb, cases_lt, and_parts, and_from, or_cases, or_left, or_right, leb-true, le-leb}
-use Rattle.std.specs.List.{flat_map, AllByRecursion as All}
+use Rattle.std.specs.List.{flat_map, AllByRecursion}
 use Rattle.std.proofs.lemmas.List.{append-nil, get_or-take, get_or-drop, get_or_append_left, get_or-replicate}
 use Rattle.std.proofs.ByRecursion.{All-get_or, All-weaker}
 use Rattle.dayfile.specs.declared.record.Flag.{Flag}
@@ -22,7 +22,7 @@ use Rattle.dayfile.specs.Owners.{Owned}
 use Rattle.dayfile.specs.Writing.{Fitting, LoadFits, HourFits, record_owned}
 use Rattle.dayfile.specs.Keeping.{Between, Price, Energy, DayKept, LoadKept, ParticipantKept, ResourceKept, HourKept, RealTimeKept, Keeps}
 use Rattle.dayfile.proofs.Numbers.{Bytes, value_one, value_drop, value_lt}
-use Rattle.dayfile.proofs.Each.{length_each, getD_each, all_each}
+use Rattle.dayfile.proofs.Each.{length_each, get_or_each, all_each}
 use Rattle.dayfile.proofs.Tables.{entry_none, entry_allowed, first_none_from, first_none_nil}
 use Rattle.dayfile.proofs.Agains.{value_in, faultless}
 use Rattle.dayfile.proofs.Backs.{day_back, day_rest, participant_back, participant_rest, resource_back, resource_gap, resource_rest, real_time_back, real_time_events, real_time_flags, real_time_rest}
@@ -74,9 +74,9 @@ parts_whole : (least most n : ℕ) → Between least most n → allows (Whole le
 parts_whole least most n p = and_from (leb least n) (leb n most) (le-leb least n p.0) (le-leb n most p.1)
 
 -- a part of a row
-at_each : {A : Type 0} (P : A → Type 0) (read : List ℕ → A) (w n : ℕ) (bs : List ℕ) (i : ℕ) → i < n → All P (each read w n bs) → P (read (drop (i * w) bs))
+at_each : {A : Type 0} (P : A → Type 0) (read : List ℕ → A) (w n : ℕ) (bs : List ℕ) (i : ℕ) → i < n → AllByRecursion P (each read w n bs) → P (read (drop (i * w) bs))
 at_each P read w n bs i s a =
-    subst P (getD_each read w n bs i (read bs) s) (All-get_or P (each read w n bs) i (read bs) (omega (arith, length_each read w n bs)) a)
+    subst P (get_or_each read w n bs i (read bs) s) (All-get_or P (each read w n bs) i (read bs) (omega (arith, length_each read w n bs)) a)
 
 module _ (b : List ℕ) (h : Bytes b) where
   -- the numbers of a block's parts, by their places in the block
@@ -106,13 +106,13 @@ module _ (b : List ℕ) (h : Bytes b) where
       parts_whole least most _ (subst (λ q. Between least most (value q w b)) (sym p) k))
 
   -- a row of numbers
-  words_are : (at most : ℕ) → entry_fault (fields at 24 4 (Whole 0 most)) b ≡ None → All (λ n. n ≤ most) (each word_from 4 24 (part at 96 b))
+  words_are : (at most : ℕ) → entry_fault (fields at 24 4 (Whole 0 most)) b ≡ None → AllByRecursion (λ n. n ≤ most) (each word_from 4 24 (part at 96 b))
   words_are at most e =
       all_each (λ n. n ≤ most) word_from 4 24 (part at 96 b)
       (λ i s. let q = (whole_parts 0 most _ (entry_none (fields at 24 4 (Whole 0 most)) b e i s)).1 in
       let r = in_row at 96 (i * 4) 0 4 (at + i * 4) (omega arith) (omega arith) in omega (arith, q, r))
 
-  are_words : (at most : ℕ) → All (λ n. n ≤ most) (each word_from 4 24 (part at 96 b)) → entry_fault (fields at 24 4 (Whole 0 most)) b ≡ None
+  are_words : (at most : ℕ) → AllByRecursion (λ n. n ≤ most) (each word_from 4 24 (part at 96 b)) → entry_fault (fields at 24 4 (Whole 0 most)) b ≡ None
   are_words at most a =
       entry_allowed (fields at 24 4 (Whole 0 most)) b
       (λ i s. let q = at_each (λ n. n ≤ most) word_from 4 24 (part at 96 b) i s a in
@@ -120,33 +120,33 @@ module _ (b : List ℕ) (h : Bytes b) where
       parts_whole 0 most _ (omega arith, omega (arith, q, r)))
 
   -- a row of prices
-  prices_are : (at : ℕ) → entry_fault (fields at 24 4 (Signed 200000)) b ≡ None → All Price (each signed_from 4 24 (part at 96 b))
+  prices_are : (at : ℕ) → entry_fault (fields at 24 4 (Signed 200000)) b ≡ None → AllByRecursion Price (each signed_from 4 24 (part at 96 b))
   prices_are at e =
       all_each Price signed_from 4 24 (part at 96 b)
       (λ i s. let r = in_row at 96 (i * 4) 0 4 (at + i * 4) (omega arith) (omega arith) in
       subst (λ n. Price (to_z w32 n)) (sym r) (allowed_price _ (small (at + i * 4) 4) (entry_none (fields at 24 4 (Signed 200000)) b e i s)))
 
-  are_prices : (at : ℕ) → All Price (each signed_from 4 24 (part at 96 b)) → entry_fault (fields at 24 4 (Signed 200000)) b ≡ None
+  are_prices : (at : ℕ) → AllByRecursion Price (each signed_from 4 24 (part at 96 b)) → entry_fault (fields at 24 4 (Signed 200000)) b ≡ None
   are_prices at a =
       entry_allowed (fields at 24 4 (Signed 200000)) b
       (λ i s. let r = in_row at 96 (i * 4) 0 4 (at + i * 4) (omega arith) (omega arith) in
       price_allowed _ (small (at + i * 4) 4) (subst (λ n. Price (to_z w32 n)) r (at_each Price signed_from 4 24 (part at 96 b) i s a)))
 
   -- the day-ahead flags
-  flags_are : entry_fault (fields 360 24 1 (Whole 0 2)) b ≡ None → All (λ f. f ≡ Scr → ⊥) (each flag_from 1 24 (part 360 24 b))
+  flags_are : entry_fault (fields 360 24 1 (Whole 0 2)) b ≡ None → AllByRecursion (λ f. f ≡ Scr → ⊥) (each flag_from 1 24 (part 360 24 b))
   flags_are e =
       all_each (λ f. f ≡ Scr → ⊥) flag_from 1 24 (part 360 24 b)
       (λ i s. let r = in_row 360 24 (i * 1) 0 1 (360 + i * 1) (omega arith) (omega arith) in
       subst (λ n. flag_named n ≡ Scr → ⊥) (sym r) (not_scr (value (360 + i * 1) 1 b) (whole_parts 0 2 (value (360 + i * 1) 1 b) (entry_none (fields 360 24 1 (Whole 0 2)) b e i s)).1))
 
-  are_flags : All (λ f. f ≡ Scr → ⊥) (each flag_from 1 24 (part 360 24 b)) → entry_fault (fields 360 24 1 (Whole 0 2)) b ≡ None
+  are_flags : AllByRecursion (λ f. f ≡ Scr → ⊥) (each flag_from 1 24 (part 360 24 b)) → entry_fault (fields 360 24 1 (Whole 0 2)) b ≡ None
   are_flags a =
       entry_allowed (fields 360 24 1 (Whole 0 2)) b
       (λ i s. let r = in_row 360 24 (i * 1) 0 1 (360 + i * 1) (omega arith) (omega arith) in
       parts_whole 0 2 (value (360 + i * 1) 1 b) (omega arith, scr_not (value (360 + i * 1) 1 b) (subst (λ n. flag_named n ≡ Scr → ⊥) r (at_each (λ f. f ≡ Scr → ⊥) flag_from 1 24 (part 360 24 b) i s a))))
 
   -- the loads: three numbers a region
-  loads_are : entry_fault (fields 8 24 4 (Whole 0 10000000)) b ≡ None → All LoadKept (each load_from 12 8 (part 8 96 b))
+  loads_are : entry_fault (fields 8 24 4 (Whole 0 10000000)) b ≡ None → AllByRecursion LoadKept (each load_from 12 8 (part 8 96 b))
   loads_are e =
       all_each LoadKept load_from 12 8 (part 8 96 b)
       (λ i s. record { day_ahead = load i 0 s (omega arith); real_time = load i 1 s (omega arith); deviation = load i 2 s (omega arith) })
@@ -157,7 +157,7 @@ module _ (b : List ℕ) (h : Bytes b) where
           let r = in_row 8 96 (i * 12) (4 * j) 4 (8 + (3 * i + j) * 4) (omega arith) (omega arith) in
           omega (arith, q, r)
 
-  are_loads : All LoadKept (each load_from 12 8 (part 8 96 b)) → entry_fault (fields 8 24 4 (Whole 0 10000000)) b ≡ None
+  are_loads : AllByRecursion LoadKept (each load_from 12 8 (part 8 96 b)) → entry_fault (fields 8 24 4 (Whole 0 10000000)) b ≡ None
   are_loads a = entry_allowed (fields 8 24 4 (Whole 0 10000000)) b (λ m s. parts_whole 0 10000000 (value (8 + m * 4) 4 b) (omega arith, go m s (m % 3) refl))
     where
       load : (i : ℕ) → i < 8 → LoadKept (load_from (drop (i * 12) (part 8 96 b)))
@@ -171,7 +171,7 @@ module _ (b : List ℕ) (h : Bytes b) where
 
   -- the hours: two numbers and a price each
   hours_are : entry_fault (hourly 12 (Whole 0 2000000)) b ≡ None → entry_fault (hourly 16 (Whole 0 2000000)) b ≡ None → entry_fault (hourly 20 (Signed 200000)) b ≡ None
-      → All HourKept (each hour_from 12 24 (part 12 288 b))
+      → AllByRecursion HourKept (each hour_from 12 24 (part 12 288 b))
   hours_are e f g =
       all_each HourKept hour_from 12 24 (part 12 288 b)
       (λ i s. let q = in_row 12 288 (i * 12) 0 4 (12 + i * 12) (omega arith) (omega arith) in
@@ -185,7 +185,7 @@ module _ (b : List ℕ) (h : Bytes b) where
         lmp = subst (λ n. Price (to_z w32 n)) (sym t) (allowed_price _ (small (20 + i * 12) 4) (entry_none (hourly 20 (Signed 200000)) b g i s));
       })
 
-  module _ (a : All HourKept (each hour_from 12 24 (part 12 288 b))) where
+  module _ (a : AllByRecursion HourKept (each hour_from 12 24 (part 12 288 b))) where
     hour : (i : ℕ) → i < 24 → HourKept (hour_from (drop (i * 12) (part 12 288 b)))
     hour i s = at_each HourKept hour_from 12 24 (part 12 288 b) i s a
 
@@ -208,7 +208,7 @@ module _ (b : List ℕ) (h : Bytes b) where
         price_allowed _ (small (20 + i * 12) 4) (subst (λ n. Price (to_z w32 n)) q (hour i s).lmp))
 
 -- a table in none of whose entries there is a fault
-unfaulty : (t : List Entry) (b : List ℕ) → All (λ e. entry_fault e b ≡ None) t → first_fault t b ≡ None
+unfaulty : (t : List Entry) (b : List ℕ) → AllByRecursion (λ e. entry_fault e b ≡ None) t → first_fault t b ≡ None
 unfaulty [] b a = first_none_nil b
 unfaulty (e ∷ es) b a = first_none_from e es b a.0 (unfaulty es b a.1)
 

@@ -1,6 +1,6 @@
 -- Numbers in bytes: what is written reads back, and what was read is written again.
 use Rattle.std.proofs.Common.{◌≡◌, ℕ, zero, suc, ◌+◌, ◌-◌, ◌*◌, ◌/◌, ◌%◌, ◌^◌, ◌<◌, ◌≤◌, ◌⊎◌, List, [], ◌∷◌, ◌++◌, length, get_or, take, drop, sym, refl, ap, ◌∙◌, subst, inl, inr, add-zero, pow-suc, arith}
-use Rattle.std.specs.List.{AllByRecursion as All}
+use Rattle.std.specs.List.{AllByRecursion}
 use Rattle.std.proofs.lemmas.List.{drop-drop, get_or-drop, get_or_past, take_at, drop-take, take-take}
 use Rattle.std.proofs.ByRecursion.{All-get_or}
 use Rattle.std.proofs.lemmas.Bool.{cases_lt}
@@ -19,7 +19,7 @@ bytes_take (suc n) [] h i = omega arith
 bytes_take (suc n) (b ∷ bs) h zero = h 0
 bytes_take (suc n) (b ∷ bs) h (suc i) = bytes_take n bs (λ j. h (suc j)) i
 
-pub bytes_from_all : (bs : List ℕ) → All (λ b. b < 256) bs → Bytes bs
+pub bytes_from_all : (bs : List ℕ) → AllByRecursion (λ b. b < 256) bs → Bytes bs
 bytes_from_all bs h i = go (cases_lt i (length bs))
   where
     go : (i < length bs) ⊎ (length bs ≤ i) → get_or bs i 0 < 256
@@ -119,7 +119,7 @@ unfolding digits
 length_digits zero n = refl
 length_digits (suc w) n = ap suc (length_digits w (n / 256))
 
-pub small_digits : (w n : ℕ) → All (λ b. b < 256) (digits w n)
+pub small_digits : (w n : ℕ) → AllByRecursion (λ b. b < 256) (digits w n)
 unfolding digits
 small_digits zero n = tt
 small_digits (suc w) n = (omega arith, small_digits w (n / 256))

@@ -1,6 +1,6 @@
 -- The owners' rules: the turns of the loops over owners, and the rules as facts.
 use Rattle.std.proofs.Common.{◌≡◌, ℕ, ◌+◌, ◌^◌, ◌<◌, ◌≤◌, min, Bool, true, false, ◌&&◌, eqb, ltb, leb, ◌⊎◌, List, [], ◌∷◌, map, length, get_or, take, drop, sum, sym, refl, ap, ◌∙◌, subst, inl, inr, le_refl, arith}
-use Rattle.std.specs.List.{AllByRecursion as All}
+use Rattle.std.specs.List.{AllByRecursion}
 use Rattle.std.proofs.lemmas.List.{at_drop_more, take-append-drop}
 use Rattle.std.proofs.ByRecursion.{All-append, All-weaker}
 use Rattle.std.proofs.lemmas.List.Sums.{sum-map, sum_by-cons}
@@ -71,8 +71,8 @@ Starts least (o ∷ os) = least ≤ o.place
 record Placed (least limit : ℕ) (os : List Owner) : Type 0 where
   starts : Starts least os
   rising : Rises (map (λ o. o.place) os)
-  below : All (λ o. o.place < limit) os
-  above : All (λ o. 0 < o.parts) os
+  below : AllByRecursion (λ o. o.place < limit) os
+  above : AllByRecursion (λ o. 0 < o.parts) os
 
 -- one owner more in front
 rises_more : (o : Owner) (os : List Owner) → Starts (o.place + 1) os → Rises (map (λ o. o.place) os) → Rises (map (λ o. o.place) (o ∷ os))
@@ -112,7 +112,7 @@ parts_sum [] = refl
 parts_sum (o ∷ os) =
     ap (λ n. o.parts + n) (parts_sum os ∙ sum-map (λ o. o.parts) os) ∙ sym (sum_by-cons (λ o. o.parts) o os) ∙ sym (sum-map (λ o. o.parts) (o ∷ os))
 
-vacant_true : (os : List Owner) → vacant os ≡ true → All (λ o. (o.place ≡ 0) × (o.parts ≡ 0)) os
+vacant_true : (os : List Owner) → vacant os ≡ true → AllByRecursion (λ o. (o.place ≡ 0) × (o.parts ≡ 0)) os
 unfolding vacant
 vacant_true [] e = tt
 vacant_true (o ∷ os) e =
@@ -120,7 +120,7 @@ vacant_true (o ∷ os) e =
     let q = and_parts (eqb o.place 0) (eqb o.parts 0) p.0 in
     ((eqb-true _ _ q.0, eqb-true _ _ q.1), vacant_true os p.1)
 
-true_vacant : (os : List Owner) → All (λ o. (o.place ≡ 0) × (o.parts ≡ 0)) os → vacant os ≡ true
+true_vacant : (os : List Owner) → AllByRecursion (λ o. (o.place ≡ 0) × (o.parts ≡ 0)) os → vacant os ≡ true
 unfolding vacant
 true_vacant [] a = refl
 true_vacant (o ∷ os) a = and_from _ _ (and_from _ _ (eq-eqb _ _ a.0.0) (eq-eqb _ _ a.0.1)) (true_vacant os a.1)
@@ -130,24 +130,24 @@ starts_none [] = tt
 starts_none (o ∷ os) = omega arith
 
 -- the owners' numbers are small
-parts_le : (m : ℕ) (os : List Owner) → parts_of os ≤ m → All (λ o. o.parts ≤ m) os
+parts_le : (m : ℕ) (os : List Owner) → parts_of os ≤ m → AllByRecursion (λ o. o.parts ≤ m) os
 unfolding parts_of
 parts_le m [] l = tt
 parts_le m (o ∷ os) l = (omega arith, parts_le m os (omega arith))
 
-used_fit : (os : List Owner) → All (λ o. o.place < 2 ^ 16) os → All (λ o. o.parts ≤ 1000000) os → All OwnerFits os
+used_fit : (os : List Owner) → AllByRecursion (λ o. o.place < 2 ^ 16) os → AllByRecursion (λ o. o.parts ≤ 1000000) os → AllByRecursion OwnerFits os
 used_fit [] p q = tt
 used_fit (o ∷ os) p q = ((p.0, omega (arith, q.0)), used_fit os p.1 q.1)
 
-unused_fit : (os : List Owner) → All (λ o. (o.place ≡ 0) × (o.parts ≡ 0)) os → All OwnerFits os
+unused_fit : (os : List Owner) → AllByRecursion (λ o. (o.place ≡ 0) × (o.parts ≡ 0)) os → AllByRecursion OwnerFits os
 unused_fit os a = All-weaker (λ o. (o.place ≡ 0) × (o.parts ≡ 0)) OwnerFits (λ o e. (omega (arith, e.0), omega (arith, e.1))) os a
 
-pub owned_fits : (limit count : ℕ) (os : List Owner) → limit ≤ 2 ^ 16 → Owned limit count os → All OwnerFits os
+pub owned_fits : (limit count : ℕ) (os : List Owner) → limit ≤ 2 ^ 16 → Owned limit count os → AllByRecursion OwnerFits os
 owned_fits limit count os l o =
     let used = take count os in
     let places = All-weaker (λ o. o.place < limit) (λ o. o.place < 2 ^ 16) (λ o h. omega (arith, h)) used o.below in
     let parts = parts_le 1000000 used (subst (λ n. n ≤ 1000000) (sym (parts_sum used ∙ o.whole)) (le_refl 1000000)) in
-    subst (All OwnerFits) (take-append-drop count os) (All-append OwnerFits used (drop count os) (used_fit used places parts) (unused_fit (drop count os) o.unused))
+    subst (AllByRecursion OwnerFits) (take-append-drop count os) (All-append OwnerFits used (drop count os) (used_fit used places parts) (unused_fit (drop count os) o.unused))
 
 pub kept_owned : (limit count : ℕ) (os : List Owner) → owners_kept limit count os ≡ true → Owned limit count os
 kept_owned limit count os e =

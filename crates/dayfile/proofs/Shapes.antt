@@ -1,6 +1,6 @@
 -- A chain of records is a day, its participants, and its Resources each with an optional real-time record.
 use Rattle.std.proofs.Common.{◌≡◌, ℕ, suc, ◌+◌, ◌<◌, true, false, eqb, ◌⊎◌, List, [], ◌∷◌, ◌++◌, map, length, Some, None, Option, sym, refl, ap, ◌∙◌, subst, inl, inr, add-zero, zero-add, arith}
-use Rattle.std.specs.List.{flat_map, AllByRecursion as All}
+use Rattle.std.specs.List.{flat_map, AllByRecursion}
 use Rattle.dayfile.specs.declared.before.Before.{Before}
 use Rattle.dayfile.specs.declared.record.Record.{Record}
 use Rattle.dayfile.specs.declared.record.Record.TheVariants.{Day, Participant, Resource, RealTime}
@@ -40,10 +40,10 @@ Waiting s None = s.kind ≡ Some 82
 Waiting s (Some g) = (s.kind ≡ Some 71) × (s.number ≡ g.number) × Sound (Resource g) × (record_owned s.participants (Resource g) ≡ true)
 
 abbrev Rest : Before → Option ResourceRecord → List Record → Type 0
-Rest s None rs = (us : List Generator) × ((rs ≡ flat_map generator_records us) × All (PairSound s.participants) us × RisesBehind s.resource (map pair_number us))
+Rest s None rs = (us : List Generator) × ((rs ≡ flat_map generator_records us) × AllByRecursion (PairSound s.participants) us × RisesBehind s.resource (map pair_number us))
 Rest s (Some g) rs =
     (x : Option RealTimeRecord) × ((us : List Generator) × ((Resource g ∷ rs ≡ generator_records (g, x) ++ flat_map generator_records us) × PairSound s.participants (g, x)
-    × All (PairSound s.participants) us × RisesBehind s.resource (map pair_number us)))
+    × AllByRecursion (PairSound s.participants) us × RisesBehind s.resource (map pair_number us)))
 
 wrong : {P : Type 0} (o : Option ℕ) (b c : ℕ) → o ≡ Some b → in_order (Some b) c ≡ false → in_order o c ≡ true → P
 wrong o b c e f t =
@@ -67,7 +67,7 @@ rest (Resource h ∷ rs) s None w c =
       (h, r.0) ∷ r.1.0,
       (
         q.0,
-        (subst (λ n. PairSound n (h, r.0)) e q.1, subst (λ n. All (PairSound n) r.1.0) e q.2),
+        (subst (λ n. PairSound n (h, r.0)) e q.1, subst (λ n. AllByRecursion (PairSound n) r.1.0) e q.2),
         (c.0.risen, q.3),
       ),
     )
@@ -81,7 +81,7 @@ rest (Resource h ∷ rs) s (Some g) w c =
         (
           ap (λ xs. Resource g ∷ xs) q.0,
           (w.2, w.3, tt),
-          (subst (λ n. PairSound n (h, r.0)) e q.1, subst (λ n. All (PairSound n) r.1.0) e q.2),
+          (subst (λ n. PairSound n (h, r.0)) e q.1, subst (λ n. AllByRecursion (PairSound n) r.1.0) e q.2),
           (c.0.risen, q.3),
         ),
       ),
@@ -96,7 +96,7 @@ rest (RealTime q ∷ rs) s (Some g) w c =
         (
           ap (λ xs. Resource g ∷ RealTime q ∷ xs) r.1.0,
           (w.2, w.3, (sound_of c.0, c.0.tied ∙ w.1)),
-          subst (λ n. All (PairSound n) r.0) e r.1.1,
+          subst (λ n. AllByRecursion (PairSound n) r.0) e r.1.1,
           r.1.2,
         ),
       ),
@@ -107,9 +107,9 @@ pub record Phases (s : Before) (rs : List Record) : Type 0 where
   pub ps : List ParticipantRecord
   pub us : List Generator
   pub same : rs ≡ map Participant ps ++ flat_map generator_records us
-  pub sound : All (λ p. Sound (Participant p)) ps
+  pub sound : AllByRecursion (λ p. Sound (Participant p)) ps
   pub risen : RisesBehind s.participant (map (λ p. p.number) ps)
-  pub pairs : All (PairSound (s.participants + length ps)) us
+  pub pairs : AllByRecursion (PairSound (s.participants + length ps)) us
   pub above : RisesBehind s.resource (map pair_number us)
 
 abbrev Opening : Before → Type 0
@@ -131,7 +131,7 @@ phases (Participant p ∷ rs) s o c =
       same = ap (λ xs. Participant p ∷ xs) r.same;
       sound = (sound_of c.0, r.sound);
       risen = (c.0.risen, r.risen);
-      pairs = subst (λ n. All (PairSound n) r.us) e r.pairs;
+      pairs = subst (λ n. AllByRecursion (PairSound n) r.us) e r.pairs;
       above = r.above;
     }
 phases (Resource g ∷ rs) s o c =
@@ -152,9 +152,9 @@ phases (RealTime q ∷ rs) s o c = unopened s 82 o refl refl c.0.follows
 -- a whole day
 pub record Shaped (d : DayRecord) (ps : List ParticipantRecord) (us : List Generator) : Type 0 where
   pub day : Sound (Day d)
-  pub sound : All (λ p. Sound (Participant p)) ps
+  pub sound : AllByRecursion (λ p. Sound (Participant p)) ps
   pub risen : RisesBehind None (map (λ p. p.number) ps)
-  pub pairs : All (PairSound (length ps)) us
+  pub pairs : AllByRecursion (PairSound (length ps)) us
   pub above : RisesBehind None (map pair_number us)
 
 pub record DayShape (rs : List Record) : Type 0 where
@@ -178,19 +178,19 @@ chain_shape (Day d ∷ rs) l c =
       ps = r.ps;
       us = r.us;
       same = ap (λ xs. Day d ∷ xs) r.same;
-      shaped = record { day = sound_of c.0; sound = r.sound; risen = r.risen; pairs = subst (λ n. All (PairSound n) r.us) (zero-add (length r.ps)) r.pairs; above = r.above };
+      shaped = record { day = sound_of c.0; sound = r.sound; risen = r.risen; pairs = subst (λ n. AllByRecursion (PairSound n) r.us) (zero-add (length r.ps)) r.pairs; above = r.above };
     }
 chain_shape (Participant p ∷ rs) l c = first_wrong 80 refl c.0.follows
 chain_shape (Resource g ∷ rs) l c = first_wrong 71 refl c.0.follows
 chain_shape (RealTime q ∷ rs) l c = first_wrong 82 refl c.0.follows
 
 -- and the other way: such records are a chain
-pair_chain : (us : List Generator) (s : Before) (b : ℕ) → s.kind ≡ Some b → All (PairSound s.participants) us → RisesBehind s.resource (map pair_number us) → Chain s (flat_map generator_records us)
+pair_chain : (us : List Generator) (s : Before) (b : ℕ) → s.kind ≡ Some b → AllByRecursion (PairSound s.participants) us → RisesBehind s.resource (map pair_number us) → Chain s (flat_map generator_records us)
 pair_chain [] s b k a r = tt
 pair_chain ((g, None) ∷ us) s b k a r =
     let e = sym (add-zero s.participants) in (
       record { fits = a.0.0.0; fields = a.0.0.1; follows = ap (λ o. in_order o 71) k ∙ behind b; tied = tt; risen = r.0; shared = a.0.1 },
-      pair_chain us (step s (Resource g)) 71 refl (subst (λ n. All (PairSound n) us) e a.1) r.1,
+      pair_chain us (step s (Resource g)) 71 refl (subst (λ n. AllByRecursion (PairSound n) us) e a.1) r.1,
     )
   where
     behind : (b : ℕ) → in_order (Some b) 71 ≡ true
@@ -201,7 +201,7 @@ pair_chain ((g, Some q) ∷ us) s b k a r =
       record { fits = a.0.0.0; fields = a.0.0.1; follows = ap (λ o. in_order o 71) k; tied = tt; risen = r.0; shared = a.0.1 },
       (
         record { fits = a.0.2.0.0; fields = a.0.2.0.1; follows = refl; tied = a.0.2.1; risen = refl; shared = refl },
-        pair_chain us (step (step s (Resource g)) (RealTime q)) 82 refl (subst (λ n. All (PairSound n) us) (e ∙ e2) a.1) r.1,
+        pair_chain us (step (step s (Resource g)) (RealTime q)) 82 refl (subst (λ n. AllByRecursion (PairSound n) us) (e ∙ e2) a.1) r.1,
       ),
     )
 
@@ -211,20 +211,20 @@ opened s o = elim o [ inl e ↦ ap (λ x. in_order x 80) e | inr e ↦ ap (λ x.
 opening_kind : (s : Before) → Opening s → (b : ℕ) × (s.kind ≡ Some b)
 opening_kind s o = elim o [ inl e ↦ (68, e) | inr e ↦ (80, e) ]
 
-part_chain : (ps : List ParticipantRecord) (us : List Generator) (s : Before) → Opening s → All (λ p. Sound (Participant p)) ps → RisesBehind s.participant (map (λ p. p.number) ps)
-    → All (PairSound (s.participants + length ps)) us → RisesBehind s.resource (map pair_number us) → Chain s (map Participant ps ++ flat_map generator_records us)
+part_chain : (ps : List ParticipantRecord) (us : List Generator) (s : Before) → Opening s → AllByRecursion (λ p. Sound (Participant p)) ps → RisesBehind s.participant (map (λ p. p.number) ps)
+    → AllByRecursion (PairSound (s.participants + length ps)) us → RisesBehind s.resource (map pair_number us) → Chain s (map Participant ps ++ flat_map generator_records us)
 part_chain [] us s o a r b t =
-    let k = opening_kind s o in pair_chain us s k.0 k.1 (subst (λ n. All (PairSound n) us) (add-zero s.participants) b) t
+    let k = opening_kind s o in pair_chain us s k.0 k.1 (subst (λ n. AllByRecursion (PairSound n) us) (add-zero s.participants) b) t
 part_chain (p ∷ ps) us s o a r b t =
     let e : s.participants + suc (length ps) ≡ s.participants + 1 + length ps = omega arith in (
       record { fits = a.0.0; fields = a.0.1; follows = opened s o; tied = tt; risen = r.0; shared = refl },
-      part_chain ps us (step s (Participant p)) (inr refl) a.1 r.1 (subst (λ n. All (PairSound n) us) e b) t,
+      part_chain ps us (step s (Participant p)) (inr refl) a.1 r.1 (subst (λ n. AllByRecursion (PairSound n) us) e b) t,
     )
 
 pub shape_chain : (d : DayRecord) (ps : List ParticipantRecord) (us : List Generator) → Shaped d ps us → Chain nothing (day_records d ps us)
 shape_chain d ps us h = (
   record { fits = h.day.0; fields = h.day.1; follows = refl; tied = tt; risen = refl; shared = refl },
-  part_chain ps us (step nothing (Day d)) (inl refl) h.sound h.risen (subst (λ n. All (PairSound n) us) (sym (zero-add (length ps))) h.pairs) h.above,
+  part_chain ps us (step nothing (Day d)) (inl refl) h.sound h.risen (subst (λ n. AllByRecursion (PairSound n) us) (sym (zero-add (length ps))) h.pairs) h.above,
 )
 
 -- what stands behind a whole day

@@ -1,7 +1,7 @@
 -- The first faulty field of a table: the least place of a faulty field, and none where no field is faulty.
 use Rattle.std.proofs.Common.{◌≡◌, ℕ, zero, suc, ◌+◌, ◌-◌, ◌*◌, ◌<◌, ◌≤◌, min, Bool, true, false, cond, not, ◌&&◌, ◌||◌, eqb, ltb, leb, ◌⊎◌, List, [], ◌∷◌, ◌++◌, length, get_or, take, drop, is_some, Some, None, Decides, Option, sym, refl, ap, ◌∙◌, subst, inl, inr, suc-mul, zero-mul, arith}
 use lib.Bits.{bit_or, or_add_and, and_le_l, and_le_r}
-use Rattle.std.specs.List.{AllByRecursion as All}
+use Rattle.std.specs.List.{AllByRecursion}
 use Rattle.std.proofs.lemmas.List.{drop_more, drop_all, take_at, take_all, take-take, get_or-take, get_or-drop, length-take-le, length-drop}
 use Rattle.std.proofs.ByRecursion.{All-get_or, All-from_get_or, All-take, All-more}
 use Rattle.std.proofs.lemmas.Bool.Decides.{nat_tests}
@@ -299,20 +299,20 @@ or_zero a b h =
     let r = and_le_r a b in
     (omega (arith, s, r), omega (arith, s, l))
 
-pub zeros_more : (bs : List ℕ) (i any : ℕ) → i < length bs → (any ≡ 0 → All (λ b. b ≡ 0) (take i bs)) × (All (λ b. b ≡ 0) (take i bs) → any ≡ 0)
-    → (bit_or any (get_or bs i 0) ≡ 0 → All (λ b. b ≡ 0) (take (i + 1) bs)) × (All (λ b. b ≡ 0) (take (i + 1) bs) → bit_or any (get_or bs i 0) ≡ 0)
+pub zeros_more : (bs : List ℕ) (i any : ℕ) → i < length bs → (any ≡ 0 → AllByRecursion (λ b. b ≡ 0) (take i bs)) × (AllByRecursion (λ b. b ≡ 0) (take i bs) → any ≡ 0)
+    → (bit_or any (get_or bs i 0) ≡ 0 → AllByRecursion (λ b. b ≡ 0) (take (i + 1) bs)) × (AllByRecursion (λ b. b ≡ 0) (take (i + 1) bs) → bit_or any (get_or bs i 0) ≡ 0)
 zeros_more bs i any l (to, from) =
     let n = length-take-le (i + 1) bs (omega arith) in (
       (λ h. let p = or_zero any (get_or bs i 0) h in All-more (λ b. b ≡ 0) bs i 0 l (to p.0) p.1),
       (λ h.
           let here : get_or bs i 0 ≡ 0 = sym (get_or-take (i + 1) bs i 0 (omega arith)) ∙ All-get_or (λ b. b ≡ 0) (take (i + 1) bs) i 0 (omega (arith, n)) h in
-          let before : All (λ b. b ≡ 0) (take i bs) = subst (All (λ b. b ≡ 0)) (take-take i (i + 1) bs (omega arith)) (All-take (λ b. b ≡ 0) i (take (i + 1) bs) h) in
+          let before : AllByRecursion (λ b. b ≡ 0) (take i bs) = subst (AllByRecursion (λ b. b ≡ 0)) (take-take i (i + 1) bs (omega arith)) (All-take (λ b. b ≡ 0) i (take (i + 1) bs) h) in
           ap (λ a. bit_or a (get_or bs i 0)) (from before) ∙ here),
     )
 
 -- unnamed bytes hold what they may where all are 0
 pub unnamed_holds : (e : Entry) (b : List ℕ) (n : ℕ) (r : Bool) → e.limits ≡ Unnamed → e.stride ≡ 1 → sized e ≡ true → n ≡ e.count → e.start + n ≤ length b
-    → Decides r (All (λ x. x ≡ 0) (take n (drop e.start b))) → r ≡ not (is_some (entry_fault e b))
+    → Decides r (AllByRecursion (λ x. x ≡ 0) (take n (drop e.start b))) → r ≡ not (is_some (entry_fault e b))
 unnamed_holds e b n r limits stride s count long (to, from) = go r (entry_fault e b) refl refl
   where
     one : e.width ≡ 1
@@ -327,13 +327,13 @@ unnamed_holds e b n r limits stride s count long (to, from) = go r (entry_fault 
         get_or-take n (drop e.start b) i 0 l ∙ get_or-drop e.start b i 0 ∙ sym (value_one (e.start + i) b)
         ∙ ap (λ k. value k 1 b) p ∙ ap (λ w. value (e.start + i * e.stride) w b) (sym one)
 
-    none : All (λ x. x ≡ 0) (take n (drop e.start b)) → entry_fault e b ≡ None
+    none : AllByRecursion (λ x. x ≡ 0) (take n (drop e.start b)) → entry_fault e b ≡ None
     none h = entry_allowed e b (λ i l.
         let m : i < n = omega arith in
         let z = sym (at i m) ∙ All-get_or (λ x. x ≡ 0) (take n (drop e.start b)) i 0 (omega (arith, len)) h in
         ap (λ k. allows k (value (e.start + i * e.stride) e.width b)) limits ∙ eq-eqb (value (e.start + i * e.stride) e.width b) 0 z)
 
-    zero_all : entry_fault e b ≡ None → All (λ x. x ≡ 0) (take n (drop e.start b))
+    zero_all : entry_fault e b ≡ None → AllByRecursion (λ x. x ≡ 0) (take n (drop e.start b))
     zero_all h = All-from_get_or (λ x. x ≡ 0) (take n (drop e.start b)) 0 (λ i l.
         let m : i < n = omega (arith, len) in
         let z = sym (ap (λ k. allows k (value (e.start + i * e.stride) e.width b)) limits) ∙ entry_none e b h i (omega arith) in

@@ -1,6 +1,6 @@
 -- A file is accepted just where it is the joined blocks of a well-formed day.
 use Rattle.std.proofs.Common.{◌≡◌, ℕ, ◌+◌, ◌*◌, ◌^◌, ◌≤◌, true, List, [], ◌∷◌, ◌++◌, map, length, take, drop, Some, None, Ok, sym, refl, ap, ◌∙◌, append-nil, arith}
-use Rattle.std.specs.List.{flat_map, AllByRecursion as All}
+use Rattle.std.specs.List.{flat_map, AllByRecursion}
 use Rattle.std.proofs.lemmas.List.{append_assoc, take_at, drop_at, drop-drop}
 use Rattle.std.proofs.lemmas.Bool.{ltb-true, lt-ltb}
 use Rattle.dayfile.specs.declared.before.Before.{Before}
@@ -24,11 +24,11 @@ use Rattle.dayfile.proofs.Chains.{Chain, step}
 use Rattle.dayfile.proofs.Shapes.{Sound, RisesBehind, PairSound, Shaped, shape_chain}
 use Rattle.dayfile.proofs.FileLaws.{passed, shaped_accepted, accepted_shaped, joined_length}
 
-all_like : {A : Type 0} (P Q : A → Type 0) (xs : List A) → ((x : A) → P x → Q x) → All P xs → All Q xs
+all_like : {A : Type 0} (P Q : A → Type 0) (xs : List A) → ((x : A) → P x → Q x) → AllByRecursion P xs → AllByRecursion Q xs
 all_like P Q [] h a = tt
 all_like P Q (x ∷ xs) h a = (h x a.0, all_like P Q xs h a.1)
 
-all_both : {A : Type 0} (P Q : A → Type 0) (xs : List A) → All P xs → All Q xs → All (λ x. P x × Q x) xs
+all_both : {A : Type 0} (P Q : A → Type 0) (xs : List A) → AllByRecursion P xs → AllByRecursion Q xs → AllByRecursion (λ x. P x × Q x) xs
 all_both P Q [] a b = tt
 all_both P Q (x ∷ xs) a b = ((a.0, b.0), all_both P Q xs a.1 b.1)
 

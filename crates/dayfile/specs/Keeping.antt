@@ -1,6 +1,6 @@
 -- What it is for a record to keep its limits, field by field.
 use Rattle.std.specs.Prelude.{◌≡◌, ℕ, ◌^◌, ◌<◌, ◌≤◌, List, length, ℤ, pos, neg_ℤ, ◌≤ℤ◌, ◌≢◌}
-use Rattle.std.specs.List.{AllByRecursion as All}
+use Rattle.std.specs.List.{AllByRecursion}
 use Rattle.dayfile.specs.declared.record.Record.{Record}
 use Rattle.dayfile.specs.declared.record.Record.TheVariants.{Day, Participant, Resource, RealTime}
 use Rattle.dayfile.specs.declared.record.DayRecord.{DayRecord}
@@ -30,7 +30,7 @@ Energy n = n ≤ 2000000
 
 -- so many in a row, each of which keeps a limit
 abbrev pub Row : {A : Type 0} → ℕ → (A → Type 0) → List A → Type 0
-Row n P xs = (length xs ≡ n) × All P xs
+Row n P xs = (length xs ≡ n) × AllByRecursion P xs
 
 pub record DayKept (d : DayRecord) : Type 0 where
   pub date : Between 1 60000 d.date

@@ -1,6 +1,6 @@
 -- The owners of a Resource: eight slots, of which the first `count` are in use.
 use Rattle.std.specs.Prelude.{◌≡◌, ℕ, ◌+◌, ◌<◌, Bool, true, ◌&&◌, List, [], ◌∷◌, map, take, drop, sum, ◌==◌, nat_le, nat_lt}
-use Rattle.std.specs.List.{AllByRecursion as All}
+use Rattle.std.specs.List.{AllByRecursion}
 use Rattle.dayfile.specs.declared.record.Owner.{Owner}
 
 -- numbers of which each is above the one before
@@ -12,10 +12,10 @@ Rises (n ∷ m ∷ ns) = (n < m) × Rises (m ∷ ns)
 -- THE OWNERS' RULES: places rise and lie below the limit, parts are above 0 and add up to a million, unused slots are 0
 pub record Owned (limit count : ℕ) (owners : List Owner) : Type 0 where
   pub rising : Rises (map (λ o. o.place) (take count owners))
-  pub below : All (λ o. o.place < limit) (take count owners)
-  pub above : All (λ o. 0 < o.parts) (take count owners)
+  pub below : AllByRecursion (λ o. o.place < limit) (take count owners)
+  pub above : AllByRecursion (λ o. 0 < o.parts) (take count owners)
   pub whole : sum (map (λ o. o.parts) (take count owners)) ≡ 1000000
-  pub unused : All (λ o. (o.place ≡ 0) × (o.parts ≡ 0)) (drop count owners)
+  pub unused : AllByRecursion (λ o. (o.place ≡ 0) × (o.parts ≡ 0)) (drop count owners)
 
 -- whether owners hold some part each, at rising places from `least` on and below `limit`
 unfoldable pub placed : ℕ → ℕ → List Owner → Bool

@@ -1,6 +1,6 @@
 -- A well-formed day: the records that an accepted file encodes.
 use Rattle.std.specs.Prelude.{◌≡◌, ℕ, List, [], ◌∷◌, ◌++◌, map, length, Some, None, Ok, Option, Result}
-use Rattle.std.specs.List.{flat_map, AllByRecursion as All}
+use Rattle.std.specs.List.{flat_map, AllByRecursion}
 use Rattle.dayfile.specs.declared.fault.Fault.{Fault}
 use Rattle.dayfile.specs.declared.record.Record.{Record}
 use Rattle.dayfile.specs.declared.record.Record.TheVariants.{Day, Participant, Resource, RealTime}
@@ -33,11 +33,11 @@ day_records d ps gs = Day d ∷ (map Participant ps ++ flat_map generator_record
 -- real-time record of its number, all within their limits, owners among the participants, and the counts that the day tells
 pub record WellFormed (d : DayRecord) (ps : List ParticipantRecord) (gs : List Generator) : Type 0 where
   pub day : DayKept d
-  pub participants : All ParticipantKept ps
+  pub participants : AllByRecursion ParticipantKept ps
   pub participants_rise : Rises (map (λ p. p.number) ps)
-  pub resources : All (λ g. ResourceKept (length ps) g.0) gs
+  pub resources : AllByRecursion (λ g. ResourceKept (length ps) g.0) gs
   pub resources_rise : Rises (map (λ g. g.0.number) gs)
-  pub real_time : All OwnRealTimeKept gs
+  pub real_time : AllByRecursion OwnRealTimeKept gs
   pub participants_counted : d.participants ≡ length ps
   pub resources_counted : d.resources ≡ length gs
 

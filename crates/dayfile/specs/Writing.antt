@@ -1,7 +1,7 @@
 -- Writing records as blocks.
 use Rattle.std.specs.Prelude.{◌≡◌, ℕ, ◌^◌, ◌<◌, ◌≤◌, Bool, true, cond, List, ◌++◌, length, drop, Some, None, Ok, Err, Option, Result, FitsSigned, nat_lt}
 use Rattle.std.specs.Int.{w32}
-use Rattle.std.specs.List.{AllByRecursion as All}
+use Rattle.std.specs.List.{AllByRecursion}
 use Rattle.dayfile.specs.declared.fault.Fault.{Fault}
 use Rattle.dayfile.specs.declared.fault.Fault.TheVariants.{RecordField, RecordOwners, Room}
 use Rattle.dayfile.specs.declared.record.Record.{Record}
@@ -28,19 +28,19 @@ HourFits h = (h.dispatch_kwh < 2 ^ 32) × (h.metered_kwh < 2 ^ 32) × FitsSigned
 abbrev pub Fitting : Record → Type 0
 Fitting (Day d) = (d.date < 2 ^ 32) × (d.version < 2 ^ 16) × (d.participants < 256) × (d.resources < 256)
 Fitting (Participant p) =
-    (p.number < 2 ^ 32) × (length p.loads ≡ 8) × All LoadFits p.loads × (p.network_load < 2 ^ 32) × (p.scr_weight < 2 ^ 32)
+    (p.number < 2 ^ 32) × (length p.loads ≡ 8) × AllByRecursion LoadFits p.loads × (p.network_load < 2 ^ 32) × (p.scr_weight < 2 ^ 32)
 Fitting (Resource g) =
     (g.region < 256) × (g.minimum_run_hours < 256) × (g.minimum_down_hours < 256) × (g.number < 2 ^ 32)
     × (g.start_up_cents < 2 ^ 32) × (g.no_load_cents < 2 ^ 32)
-    × (length g.prices ≡ 24) × All (FitsSigned w32) g.prices
+    × (length g.prices ≡ 24) × AllByRecursion (FitsSigned w32) g.prices
     × (g.hours_on_line < 256) × (g.owner_count < 256) × (g.self_scheduled < 2 ^ 32)
-    × (length g.owners ≡ 8) × All OwnerFits g.owners
-    × (length g.cleared_kwh ≡ 24) × All (λ n. n < 2 ^ 32) g.cleared_kwh
-    × (length g.lmps ≡ 24) × All (FitsSigned w32) g.lmps
+    × (length g.owners ≡ 8) × AllByRecursion OwnerFits g.owners
+    × (length g.cleared_kwh ≡ 24) × AllByRecursion (λ n. n < 2 ^ 32) g.cleared_kwh
+    × (length g.lmps ≡ 24) × AllByRecursion (FitsSigned w32) g.lmps
     × (length g.flags ≡ 24)
 Fitting (RealTime r) =
     (r.number < 2 ^ 32) × (r.economic_minimum_kwh < 2 ^ 32)
-    × (length r.hours ≡ 24) × All HourFits r.hours
+    × (length r.hours ≡ 24) × AllByRecursion HourFits r.hours
     × (length r.events ≡ 24) × (length r.flags ≡ 24)
 
 -- a record's owners keep their rules, places lying below a limit

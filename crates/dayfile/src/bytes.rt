@@ -1,6 +1,6 @@
 //! Numbers in bytes, and parts of a block that stand several times in a row.
 ghost use Rattle.std.specs.Prelude.{◌≡◌, ℕ, ◌+◌, ◌*◌, ◌^◌, ◌<◌, ◌≤◌, List, length, drop, slice_index};
-ghost use Rattle.std.specs.List.{flat_map, AllByRecursion as All};
+ghost use Rattle.std.specs.List.{flat_map, AllByRecursion};
 ghost use Rattle.dayfile.specs.Bytes.{value, each, laid};
 
 /// The byte at a place; a byte past the end counts as 0.
@@ -88,7 +88,7 @@ pub(crate) fn read_parts<T: Part + Drop>(block: &[u8], at: usize, parts: &mut [T
 pub(crate) fn write_parts<T: Part>(parts: &[T], block: &mut [u8], at: usize)
     requires { at + length parts.now * T.Part.width ≤ length block.old }
     ensures written { block.new ≡ laid block.old at (flat_map T.Part.bytes parts.now) }
-    ensures sound { All T.Part.fits parts.now }
+    ensures sound { AllByRecursion T.Part.fits parts.now }
 {
     let mut p = at;
     for part in parts {

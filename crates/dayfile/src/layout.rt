@@ -1,6 +1,6 @@
 //! The fields of each kind of block: one table a kind, and one check over it.
 ghost use Rattle.std.specs.Prelude.{◌≡◌, ◌+◌, ◌*◌, ◌^◌, ◌<◌, ◌≤◌, true, not, length, take, is_some, Decides, sum};
-ghost use Rattle.std.specs.List.{AllByRecursion as All};
+ghost use Rattle.std.specs.List.{AllByRecursion};
 ghost use Rattle.dayfile.specs.declared.layout.Limits.TheVariants.{Whole, Signed};
 ghost use Rattle.dayfile.specs.Bytes.{value, weighed};
 ghost use Rattle.dayfile.specs.Layout.{allows, entry_fault, first_fault, earlier, sized, all_sized, table_for, Wide};
@@ -478,7 +478,7 @@ impl Entry {
 
 /// Whether all bytes are 0.
 fn all_zero(bytes: &[u8]) -> bool
-    ensures { Decides result (All (λ b. b ≡ 0) bytes.now) }
+    ensures { Decides result (AllByRecursion (λ b. b ≡ 0) bytes.now) }
 {
     let mut any = 0;
     for b in bytes {

@@ -61,9 +61,9 @@ pub length_topped : (b : ℕ) (wholes keys : List ℕ) (n : ℕ) → length (top
 unfolding topped
 length_topped b wholes keys n = length-map-range_with_len (λ i. get_or wholes i 0 + tick (leb b (get_or keys i 0))) 0 n
 
-pub getD_topped : (b : ℕ) (wholes keys : List ℕ) (n i : ℕ) → i < n → get_or (topped b wholes keys n) i 0 ≡ get_or wholes i 0 + tick (leb b (get_or keys i 0))
+pub get_or_topped : (b : ℕ) (wholes keys : List ℕ) (n i : ℕ) → i < n → get_or (topped b wholes keys n) i 0 ≡ get_or wholes i 0 + tick (leb b (get_or keys i 0))
 unfolding topped
-getD_topped b wholes keys n i l = get_or-map-range_with_len (λ j. get_or wholes j 0 + tick (leb b (get_or keys j 0))) 0 n i i 0 l (omega arith)
+get_or_topped b wholes keys n i l = get_or-map-range_with_len (λ j. get_or wholes j 0 + tick (leb b (get_or keys j 0))) 0 n i i 0 l (omega arith)
 
 -- THE SHARES BY A CUT are those of the division
 pub topped_divided : (c b n m : ℕ) (ws wholes keys : List ℕ) → n ≡ length ws → n ≤ 64 → m ≡ n → n ≤ length keys
@@ -80,7 +80,7 @@ topped_divided c b n m ws wholes keys e few s room hw hk r =
     fill_by_all (share c ws) (topped b wholes keys n) (length ws) 0 (length_topped b wholes keys n ∙ e)
     (λ i l.
     let i' : i < n = omega arith in
-    getD_topped b wholes keys n i i' ∙ ap (λ x. x + tick (leb b (get_or keys i 0))) (hw i i') ∙ ap (λ x. whole_part c ws i + tick (leb b x)) (hk i i')
+    get_or_topped b wholes keys n i i' ∙ ap (λ x. x + tick (leb b (get_or keys i 0))) (hw i i') ∙ ap (λ x. whole_part c ws i + tick (leb b x)) (hk i i')
     ∙ sym (share_cut 64 c ws b i (omega arith) l cut))
 
 -- the first keys are different, and below 64 times the weights

@@ -48,21 +48,21 @@ pub length_divided : (c : ℕ) (ws : List ℕ) → length (divided c ws) ≡ len
 unfolding divided
 length_divided c ws = length-map-range_with_len (share c ws) 0 (length ws)
 
-pub getD_divided : (c : ℕ) (ws : List ℕ) (i : ℕ) → i < length ws → get_or (divided c ws) i 0 ≡ share c ws i
+pub get_or_divided : (c : ℕ) (ws : List ℕ) (i : ℕ) → i < length ws → get_or (divided c ws) i 0 ≡ share c ws i
 unfolding divided
-getD_divided c ws i l = get_or-map-range_with_len (share c ws) 0 (length ws) i i 0 l (omega arith)
+get_or_divided c ws i l = get_or-map-range_with_len (share c ws) 0 (length ws) i i 0 l (omega arith)
 
 pub divided_at : (c : ℕ) (ws : List ℕ) (i : ℕ) → 0 < sum ws → get_or (divided c ws) i 0 ≡ share c ws i
 divided_at c ws i h =
     elim (cases_lt i (length ws)) [
-      | inl l ↦ getD_divided c ws i l
+      | inl l ↦ get_or_divided c ws i l
       | inr l ↦ get_or_past (divided c ws) i 0 (omega (arith, length_divided c ws)) ∙ sym (share_weightless c ws i h (get_or_past ws i 0 l))
     ]
 
 pub nothing_at : (ws : List ℕ) (i : ℕ) → get_or (divided 0 ws) i 0 ≡ 0
 nothing_at ws i =
     elim (cases_lt i (length ws)) [
-      | inl l ↦ getD_divided 0 ws i l ∙ share_nothing ws i
+      | inl l ↦ get_or_divided 0 ws i l ∙ share_nothing ws i
       | inr l ↦ get_or_past (divided 0 ws) i 0 (omega (arith, length_divided 0 ws))
     ]
 

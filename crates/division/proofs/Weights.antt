@@ -9,7 +9,7 @@ use Rattle.division.proofs.Tallies.{tally, sum_tally, tally_part, tally_front, t
 use Rattle.division.specs.Cuts.{tick}
 use Rattle.division.proofs.Keys.{byte_tick, tick_few, tick_less}
 use Rattle.division.proofs.Parts.{wholes_within, left_is, whole_within, rank_tally}
-use Rattle.division.proofs.FairLaws.{getD_divided}
+use Rattle.division.proofs.FairLaws.{get_or_divided}
 use Rattle.division.proofs.Handing.{handed_keeps}
 
 -- the weight of a record that was read
@@ -83,4 +83,4 @@ rank_all c ws i j before e h = h ∙ ap (tally (λ k. tick (sooner (remainder c 
 
 -- a share worked out over weights that are as they were is the division's
 pub share_kept : (c : ℕ) (ws us : List ℕ) (i s : ℕ) → us ≡ ws → i < length ws → s ≡ share c us i → s ≡ get_or (divided c ws) i 0
-share_kept c ws us i s k l e = e ∙ ap (λ vs. share c vs i) k ∙ sym (getD_divided c ws i l)
+share_kept c ws us i s k l e = e ∙ ap (λ vs. share c vs i) k ∙ sym (get_or_divided c ws i l)

@@ -6,7 +6,7 @@ use Rattle.credits.specs.declared.pool.Market.TheVariants.{DayAhead, RealTime}
 use Rattle.credits.specs.declared.hourly.HourlyCents.{HourlyCents}
 use Rattle.credits.specs.declared.resource.ResourceDay.{ResourceDay}
 use Rattle.credits.specs.Grids.{market_pool, cell, Allotted}
-use Rattle.credits.proofs.Cells.{getD_small, getD_pool, pool_added_to}
+use Rattle.credits.proofs.Cells.{get_or_small, get_or_pool, pool_added_to}
 use Rattle.credits.proofs.allocating.hour_row.Goals as goal
 
 -- one amount in an empty row
@@ -14,7 +14,7 @@ abbrev lone : ℕ → ℕ → ℕ → ℕ
 lone p c q = 0 + cond (eqb q p) c 0
 
 none_at : (p : ℕ) → 1 ≤ p → p ≤ 21 → (none : List ℕ) → none ≡ replicate 21 0 → get_or none (p - 1) 0 ≡ 0
-none_at p low high none empty = ap (λ xs. get_or xs (p - 1) 0) empty ∙ getD_pool 21 (λ _. 0) p low high
+none_at p low high none empty = ap (λ xs. get_or xs (p - 1) 0) empty ∙ get_or_pool 21 (λ _. 0) p low high
 
 module _ (p c : ℕ) (low : 1 ≤ p) (high : p ≤ 21) (none once : List ℕ) (empty : none ≡ replicate 21 0) (added : once ≡ set none (p - 1) (get_or none (p - 1) 0 + c)) where
   once_is : once ≡ map (lone p c) (range_with_len 1 21)
@@ -23,7 +23,7 @@ module _ (p c : ℕ) (low : 1 ≤ p) (high : p ≤ 21) (none once : List ℕ) (e
   once_small : (q : ℕ) → 1 ≤ q → q ≤ 21 → get_or once (q - 1) 0 ≤ c
   once_small q l h =
       let s : cond (eqb q p) c 0 ≤ c = cond_both (eqb q p) c 0 (λ n. n ≤ c) (λ _. omega arith) (λ _. omega arith) in
-      omega (arith, ap (λ xs. get_or xs (q - 1) 0) once_is ∙ getD_pool 21 (lone p c) q l h)
+      omega (arith, ap (λ xs. get_or xs (q - 1) 0) once_is ∙ get_or_pool 21 (lone p c) q l h)
 
 -- two amounts are an hour's
 cells : (x : ResourceDay) (h : ℕ) (cents : HourlyCents) (p q : ℕ) → Allotted x cents → p ≡ market_pool DayAhead x h → q ≡ market_pool RealTime x h
@@ -44,7 +44,7 @@ add-requires c =
         omega (
           arith,
           none_at c.day_ahead_pool.result b.0 b.1 c.none-row.result.cents c.none-row.ensures,
-          getD_small 100000000000 c.args.cents.now.day_ahead c.args.hour c.requires.1.1.day_ahead_small,
+          get_or_small 100000000000 c.args.cents.now.day_ahead c.args.hour c.requires.1.1.day_ahead_small,
         ),
       ),
     )
@@ -60,8 +60,8 @@ add-requires-2 c =
           arith,
           once_small c.day_ahead_pool.result (get_or c.args.cents.now.day_ahead c.args.hour 0) d.0 d.1
               c.none-row.result.cents c.add.new.self.cents c.none-row.ensures c.add.ensures.value c.real_time_pool.result b.0 b.1,
-          getD_small 100000000000 c.args.cents.now.day_ahead c.args.hour c.requires.1.1.day_ahead_small,
-          getD_small 100000000000 c.args.cents.now.real_time c.args.hour c.requires.1.1.real_time_small,
+          get_or_small 100000000000 c.args.cents.now.day_ahead c.args.hour c.requires.1.1.day_ahead_small,
+          get_or_small 100000000000 c.args.cents.now.real_time c.args.hour c.requires.1.1.real_time_small,
         ),
       ),
     )

@@ -4,7 +4,7 @@ use Rattle.credits.specs.Sums.{total}
 use Rattle.credits.specs.Grids.{cell, amount}
 use Rattle.credits.specs.Owning.{owner_places, owner_parts, owned_cents}
 use Rattle.credits.specs.Crediting.{resource_credit}
-use Rattle.credits.proofs.Cells.{getD_small}
+use Rattle.credits.proofs.Cells.{get_or_small}
 use Rattle.credits.proofs.Totals.{total_more}
 use Rattle.credits.proofs.HourCredits.{cell_owned, market_entry, first_owners, owners_fit}
 use Rattle.credits.proofs.crediting.credit_hours.Goals as goal
@@ -31,7 +31,7 @@ share_out-requires c =
       owners = owners_fit c.args.unit.now.resource c.loop-hour.owners c.requires.resource.0.resource c.loop-hour.invariant.1 c.loop-hour.invariant.2;
       small = (
         λ i p. omega (arith, c.loop-hour.invariant.3 100000000000000000 c.requires.rows.1 i p),
-        getD_small 100000000000 c.args.cents.now.day_ahead c.loop-hour.hour c.requires.resource.1.day_ahead_small,
+        get_or_small 100000000000 c.args.cents.now.day_ahead c.loop-hour.hour c.requires.resource.1.day_ahead_small,
       );
     }
 
@@ -45,7 +45,7 @@ share_out-requires-in-loop-hour c =
       owners = owners_fit c.args.unit.now.resource c.share_out.new.owners c.requires.resource.0.resource (first.same_places ∙ before.1) (first.same_parts ∙ before.2);
       small = (
         λ i p. omega (arith, first.grown _ (before.3 100000000000000000 c.requires.rows.1) i p),
-        getD_small 100000000000 c.args.cents.now.real_time c.loop-hour.hour c.requires.resource.1.real_time_small,
+        get_or_small 100000000000 c.args.cents.now.real_time c.loop-hour.hour c.requires.resource.1.real_time_small,
       );
     }
 

@@ -1,5 +1,5 @@
 use Rattle.std.proofs.Common.{◌≡◌, ◌≤◌, length, pos, sym, ap, ◌∙◌, subst, arith, w64, to_z, of_z}
-use Rattle.std.specs.List.{AllByRecursion as All}
+use Rattle.std.specs.List.{AllByRecursion}
 use Rattle.std.proofs.ByRecursion.{All-map}
 use Rattle.std.proofs.lemmas.Int.{ints}
 use Rattle.std.proofs.lemmas.Bool.{cond-true, cond-false}
@@ -18,7 +18,7 @@ allot-requires c =
         | then-qualifies_day_ahead w ↦ omega (arith, ints, c.if-qualifies_day_ahead.amount-is, w.amount-is, c.claim-sum.ensures.small)
         | else-qualifies_day_ahead w ↦ omega (arith, ints, c.if-qualifies_day_ahead.amount-is, w.amount-is)
       ],
-      (ap length c.claim-sum.ensures.shares, subst (All (λ x. x.kwh ≤ 2000000)) (sym c.claim-sum.ensures.shares) (all_light (day_ahead_share g) (cleared_kept c.requires))),
+      (ap length c.claim-sum.ensures.shares, subst (AllByRecursion (λ x. x.kwh ≤ 2000000)) (sym c.claim-sum.ensures.shares) (all_light (day_ahead_share g) (cleared_kept c.requires))),
     )
 
 -- the credit
@@ -47,6 +47,6 @@ returns c =
           ∙ ap (λ m. allotted m c.claim-sum.new.hours) (c.if-qualifies_day_ahead.amount-is ∙ amount c)
           ∙ ap (allotted (day_ahead_millicents g)) c.claim-sum.ensures.shares;
       small =
-          subst (All (λ n. n ≤ 100000000000)) (sym c.cents_of.ensures)
+          subst (AllByRecursion (λ n. n ≤ 100000000000)) (sym c.cents_of.ensures)
           (All-map (λ n. n ≤ 100000000000) (λ x. x.cents) c.allot.new.hours c.allot.ensures.small);
     }

@@ -1,5 +1,5 @@
 use Rattle.std.proofs.Common.{◌≤◌, length, sym, ap, ◌∙◌, subst, arith, w64, SFits, rules}
-use Rattle.std.specs.List.{AllByRecursion as All}
+use Rattle.std.specs.List.{AllByRecursion}
 use Rattle.std.proofs.ByRecursion.{All-map}
 use Rattle.std.proofs.lemmas.Result.{err_from_is_err_and}
 use Rattle.std.proofs.lemmas.Int.{ints, to_z-of_z}
@@ -21,7 +21,7 @@ allot-requires c =
     let g = c.args.resource.now in
     let m = s.small in (
       omega (arith, ints),
-      (ap length s.shares, subst (All (λ x. x.kwh ≤ 2000000)) (sym s.shares) (all_light (real_time_share g r) (λ h l. (figures_kept c.requires.1 h l).metered))),
+      (ap length s.shares, subst (AllByRecursion (λ x. x.kwh ≤ 2000000)) (sym s.shares) (all_light (real_time_share g r) (λ h l. (figures_kept c.requires.1 h l).metered))),
     )
 
 pub returns : goal.returns
@@ -39,6 +39,6 @@ returns c =
             ∙ ap (allotted (real_time_millicents g r)) s.shares,
       );
       small =
-          subst (All (λ n. n ≤ 100000000000)) (sym c.cents_of.ensures)
+          subst (AllByRecursion (λ n. n ≤ 100000000000)) (sym c.cents_of.ensures)
           (All-map (λ n. n ≤ 100000000000) (λ x. x.cents) c.allot.new.hours c.allot.ensures.small);
     }

@@ -1,5 +1,5 @@
 use Rattle.std.proofs.Common.{◌+◌, length, drop, sym, ap, ◌∙◌, subst, arith, rules}
-use Rattle.std.specs.List.{flat_map, AllByRecursion as All}
+use Rattle.std.specs.List.{flat_map, AllByRecursion}
 use Rattle.std.proofs.ByRecursion.{All-more}
 use Rattle.std.proofs.lemmas.List.{take_all}
 use Rattle.dayfile.specs.Bytes.{laid}
@@ -43,5 +43,5 @@ returns g c =
       written =
           sym (laid_all g.T.Part.bytes c.loop-part.block c.loop-part.p c.args.parts.now c.loop-part.part-index (omega arith))
           ∙ c.loop-part.invariant.0;
-      sound = subst (All g.T.Part.fits) (take_all c.loop-part.part-index c.args.parts.now (omega arith)) c.loop-part.invariant.2;
+      sound = subst (AllByRecursion g.T.Part.fits) (take_all c.loop-part.part-index c.args.parts.now (omega arith)) c.loop-part.invariant.2;
     }

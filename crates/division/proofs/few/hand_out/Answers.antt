@@ -1,6 +1,6 @@
 use Rattle.std.proofs.Common.{◌+◌, leb, length, get_or, sym, ap, ◌∙◌, arith}
 use Rattle.division.specs.Cuts.{topped}
-use Rattle.division.proofs.Cutting.{length_topped, getD_topped}
+use Rattle.division.proofs.Cutting.{length_topped, get_or_topped}
 use Rattle.division.proofs.Handing.{handed_none, handed_step, handed_all}
 use Rattle.division.proofs.Keys.{byte_tick}
 use Rattle.division.proofs.few.hand_out.Goals as goal
@@ -19,7 +19,7 @@ loop-i-preserved g c =
     handed_step g.T.Weighted.given xs c.loop-i.records (topped b wholes keys n) i c.index-records-i.result c.take.new.self
     (get_or wholes i 0 + c.from.result)
     (omega (arith, length_topped b wholes keys n)) c.loop-i.invariant c.take.ensures
-    (ap (λ x. get_or wholes i 0 + x) (c.from.ensures ∙ byte_tick (leb b (get_or keys i 0))) ∙ sym (getD_topped b wholes keys n i (omega arith)))
+    (ap (λ x. get_or wholes i 0 + x) (c.from.ensures ∙ byte_tick (leb b (get_or keys i 0))) ∙ sym (get_or_topped b wholes keys n i (omega arith)))
 
 pub returns : goal.returns
 returns g c =
