@@ -1,5 +1,5 @@
 //! Any amount over any number of records: 128-bit arithmetic, ranks by counting.
-ghost use Rattle.std.specs.Prelude.{◌≡◌, ◌*◌, ◌/◌, ◌%◌, ◌<◌, ◌≤◌, ◌&&◌, ◌||◌, ltb, map, length, if◌then◌else◌, Some, None, sum, ◌==◌, nat_lt};
+ghost use Rattle.std.specs.Prelude.{◌≡◌, ◌*◌, ◌/◌, ◌%◌, ◌<◌, ◌≤◌, ◌&&◌, ◌||◌, map, length, if◌then◌else◌, Some, None, sum, ◌==◌, nat_lt};
 ghost use Rattle.division.specs.Records.{handed};
 ghost use Rattle.division.specs.Division.{indivisible, left_over, rank, share, divided, after_dividing};
 
@@ -53,7 +53,7 @@ fn left_of<T: Weighted>(cents: u64, total: u128, records: &[T]) -> u64
 
 /// Whether the other record ranks before the own one: its remainder is larger, or as large, and it stands earlier.
 fn ranks_before(own: u128, own_place: usize, other: u128, other_place: usize) -> bool
-    ensures { result ≡ (nat_lt own other || (own == other && ltb other_place own_place)) }
+    ensures { result ≡ (nat_lt own other || (own == other && nat_lt other_place own_place)) }
 {
     own < other || (own == other && other_place < own_place)
 }
