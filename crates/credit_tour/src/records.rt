@@ -105,7 +105,7 @@ fn cleared() -> [u32; 24] {
 }
 
 /// Writes the records one after the other.
-pub fn write_records(records: &[Record], file: &mut [u8]) -> Result<(), Fault>
+pub(crate) fn write_records(records: &[Record], file: &mut [u8]) -> Result<(), Fault>
     requires { length file.old ≡ 512 * length records.now }
 {
     for k in 0..records.len() {
