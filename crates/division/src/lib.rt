@@ -4,7 +4,9 @@
 mod dividing;
 mod few;
 mod many;
+mod portion;
 mod weighted;
 
 pub use dividing::divide;
+pub use portion::{HEAVIEST, Portion};
 pub use weighted::{Placed, Weighted};
