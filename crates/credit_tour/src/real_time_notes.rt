@@ -8,7 +8,7 @@ use crate::parts::{HourPart, NO_HOUR};
 use crate::share_notes::{note_hours, note_owners};
 use crate::stop::Stop;
 use dayfile::{AdmittedDay, Flag, RealTimeRecord, ResourceRecord};
-use explanation::event_name;
+use explanation::EventName;
 use std::io;
 
 /// What the events of a day come to: the hours that end in a pool period, and the fees of the periods.
@@ -68,7 +68,7 @@ fn note_events(
         walk.fees = walk.fees.plus(step.fee());
         if !step.is_idle() {
             let name = hour + 1;
-            let event = event_name(event);
+            let event = EventName(event);
             println!(rt; "   hour {name}, {event}: {step}")?;
         }
     }

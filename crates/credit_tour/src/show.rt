@@ -2,7 +2,7 @@
 ghost use Rattle.std.specs.Prelude.{◌<◌};
 
 use dayfile::{Event, Owner, RealTimeHour, RealTimeRecord, ResourceRecord};
-use explanation::event_name;
+use explanation::EventName;
 use std::io;
 
 /// Prints the day-ahead record of a Resource: what is not 0.
@@ -75,7 +75,7 @@ fn print_event(rt: &impl Print, real_time: &RealTimeRecord, hour: usize) -> io::
         lmp,
     } = real_time.hours[hour];
     let name = hour + 1;
-    let event = event_name(real_time.events[hour]);
+    let event = EventName(real_time.events[hour]);
     let flag = real_time.flags[hour].number();
     println!(rt;
         "      hour {name}: {event}; Dispatch Point {dispatch_kwh} kWh, metered {metered_kwh} kWh, LMP {lmp}, flag {flag}"

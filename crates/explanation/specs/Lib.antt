@@ -3,3 +3,4 @@ pub mod Shares
 pub mod Findings
 pub mod Outside
 pub mod Agreement
+pub mod Texts

@@ -1,17 +1,27 @@
 //! Events, and why one may not follow, in words.
+ghost use Rattle.std.specs.Prelude.{Some};
+ghost use Rattle.explanation.specs.Texts.{event_text};
+
 use crate::events::{Misfit, Status};
 use dayfile::Event;
 use std::fmt;
 
-/// An event's name in words.
-pub fn event_name(event: Event) -> &'static str {
-    match event {
-        Event::Off => "off",
-        Event::PoolRun => "a run for the pool",
-        Event::SelfRun => "a run for itself",
-        Event::Trip => "a trip",
-        Event::IsoRestart => "a restart for the ISO",
-        Event::OwnRestart => "a restart on its own",
+/// An event that is shown by its name.
+#[derive(Clone, Copy)]
+pub struct EventName(pub Event);
+
+impl fmt::Display for EventName {
+    ghost output = { λ name. Some (event_text name.0) };
+
+    fn fmt<W: fmt::Write>(&self, f: &mut fmt::Formatter<W>) -> fmt::Result {
+        f.write_str(match self.0 {
+            Event::Off => "off",
+            Event::PoolRun => "a run for the pool",
+            Event::SelfRun => "a run for itself",
+            Event::Trip => "a trip",
+            Event::IsoRestart => "a restart for the ISO",
+            Event::OwnRestart => "a restart on its own",
+        })
     }
 }
 
@@ -23,7 +33,7 @@ impl fmt::Display for Misfit {
             event,
             before,
         } = *self;
-        let name = event_name(event);
+        let name = EventName(event);
         write!(f, "the event of hour {hour} is {name}; ")?;
         match before {
             Status::Off => write!(

@@ -11,14 +11,16 @@ mod event_words;
 mod events;
 mod finding;
 mod owners;
+mod places;
 mod pools;
 mod reason;
 mod table;
 mod words;
 
-pub use event_words::event_name;
+pub use event_words::EventName;
 pub use events::{Misfit, Status, first_misfit};
 pub use finding::{Count, FieldName, Finding, NamedField, OwnersRule};
+pub use places::PlaceLines;
 pub use pools::PoolName;
 pub use reason::{explain, limits_are_those_judged_by};
 pub use words::layer_name;
