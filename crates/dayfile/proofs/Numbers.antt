@@ -1,7 +1,7 @@
 -- Numbers in bytes: what is written reads back, and what was read is written again.
-use Rattle.std.proofs.Common.{◌≡◌, ℕ, zero, suc, ◌+◌, ◌-◌, ◌*◌, ◌/◌, ◌%◌, ◌^◌, ◌<◌, ◌≤◌, ◌⊎◌, List, [], ◌∷◌, ◌++◌, length, get_or, take, drop, sym, refl, ap, ◌∙◌, subst, inl, inr, add-zero, pow-suc, arith}
+use Rattle.std.proofs.Common.{◌≡◌, ℕ, zero, suc, ◌+◌, ◌-◌, ◌*◌, ◌/◌, ◌%◌, ◌^◌, ◌<◌, ◌≤◌, ◌⊎◌, List, [], ◌∷◌, ◌++◌, length, get_or, take, drop, replicate, sym, refl, ap, ◌∙◌, subst, inl, inr, add-zero, pow-suc, arith}
 use Rattle.std.specs.List.{AllByRecursion}
-use Rattle.std.proofs.lemmas.List.{drop-drop, get_or-drop, get_or_past, take_at, drop-take, take-take}
+use Rattle.std.proofs.lemmas.List.{drop-drop, get_or-drop, get_or_past, take_at, drop-take, take-take, take_all, drop-replicate}
 use Rattle.std.proofs.ByRecursion.{All-get_or}
 use Rattle.std.proofs.lemmas.Bool.{cases_lt}
 use Rattle.dayfile.specs.Bytes.{number, digits, value}
@@ -63,6 +63,30 @@ value_four at bs =
     let b = value_more (at + 1) 2 bs ∙ ap (λ k. get_or bs (at + 1) 0 + 256 * value k 2 bs) two in
     let c = value_two (at + 2) bs ∙ ap (λ k. get_or bs (at + 2) 0 + 256 * get_or bs k 0) three in
     omega (arith, a, b, c)
+
+-- zeros behind a number's bytes
+pub number_padded : (bs : List ℕ) (k : ℕ) → number (bs ++ replicate k 0) ≡ number bs
+unfolding number
+number_padded [] zero = refl
+number_padded [] (suc k) = let e : number (replicate k 0) ≡ 0 = number_padded [] k in omega (arith, e)
+number_padded (b ∷ bs) k = ap (λ n. b + 256 * n) (number_padded bs k)
+
+-- what is left of a list, with zeros behind it
+pub value_padded : (at n : ℕ) (bs rest xs : List ℕ) → rest ≡ drop at bs → length rest < n → xs ≡ rest
+    → number (xs ++ drop (length rest) (replicate n 0)) ≡ value at n bs
+value_padded at n bs rest xs e l f =
+    ap (λ t. number (t ++ drop (length rest) (replicate n 0))) f
+    ∙ ap (λ t. number (rest ++ t)) (drop-replicate (length rest) n 0)
+    ∙ number_padded rest (n - length rest)
+    ∙ ap number (sym (take_all n rest (omega arith)) ∙ ap (take n) e)
+
+-- the number of two bytes, and of four
+pub number_two : (bs : List ℕ) → length bs ≡ 2 → number bs ≡ get_or bs 0 0 + 256 * get_or bs 1 0
+number_two bs l = ap number (sym (take_all 2 bs (omega arith))) ∙ value_two 0 bs
+
+pub number_four : (bs : List ℕ) → length bs ≡ 4
+    → number bs ≡ get_or bs 0 0 + 256 * get_or bs 1 0 + 65536 * get_or bs 2 0 + 16777216 * get_or bs 3 0
+number_four bs l = ap number (sym (take_all 4 bs (omega arith))) ∙ value_four 0 bs
 
 -- a value in a part of a list
 pub value_drop : (from at w : ℕ) (bs : List ℕ) → value at w (drop from bs) ≡ value (from + at) w bs

@@ -1,5 +1,5 @@
 -- The records of a day, and the blocks that write them.
-use Rattle.std.specs.Prelude.{ℕ, cond, List, ◌∷◌, ◌++◌, take, drop, ℤ, ◌==◌, slice_index}
+use Rattle.std.specs.Prelude.{◌≡◌, ℕ, ◌<◌, cond, List, ◌∷◌, ◌++◌, take, drop, ℤ, ◌==◌, Result, MatchResult, slice_index}
 use Rattle.std.specs.Int.{w32}
 use Rattle.std.proofs.Common.{to_z, of_z}
 use Rattle.std.specs.List.{flat_map}
@@ -16,6 +16,7 @@ use Rattle.dayfile.specs.declared.record.Flag.{Flag}
 use Rattle.dayfile.specs.declared.record.Flag.TheVariants.{Economic, Lscpr, Var, Scr}
 use Rattle.dayfile.specs.declared.record.Event.{Event}
 use Rattle.dayfile.specs.declared.record.Event.TheVariants.{Off, PoolRun, SelfRun, Trip, IsoRestart, OwnRestart}
+use Rattle.dayfile.specs.declared.record.UnknownNumber.{UnknownNumber}
 use Rattle.dayfile.specs.Bytes.{digits, value, weighed, zeros, each}
 
 -- the numbers of flags and events
@@ -28,6 +29,10 @@ flag_number Scr = 3
 abbrev pub flag_named : ℕ → Flag
 flag_named n = cond (n == 0) Economic (cond (n == 1) Lscpr (cond (n == 2) Var Scr))
 
+-- a number read as a flag: the flag that has it, or that no flag has it
+abbrev pub FlagNumbered : ℕ → Result Flag UnknownNumber → Type 0
+FlagNumbered n r = MatchResult r (λ f. flag_number f ≡ n) (λ e. (e.0 ≡ n) × (3 < n))
+
 abbrev pub event_number : Event → ℕ
 event_number Off = 0
 event_number PoolRun = 1
@@ -39,6 +44,10 @@ event_number OwnRestart = 5
 abbrev pub event_named : ℕ → Event
 event_named n =
     cond (n == 0) Off (cond (n == 1) PoolRun (cond (n == 2) SelfRun (cond (n == 3) Trip (cond (n == 4) IsoRestart OwnRestart))))
+
+-- a number read as an event, likewise
+abbrev pub EventNumbered : ℕ → Result Event UnknownNumber → Type 0
+EventNumbered n r = MatchResult r (λ v. event_number v ≡ n) (λ e. (e.0 ≡ n) × (5 < n))
 
 -- what stands several times in a row: its bytes, and how it is read at the front of bytes
 abbrev pub word_bytes : ℕ → List ℕ

@@ -1,38 +1,40 @@
 //! Numbers in bytes, and parts of a block that stand several times in a row.
 ghost use Rattle.std.specs.Prelude.{◌≡◌, ℕ, ◌+◌, ◌*◌, ◌^◌, ◌<◌, ◌≤◌, List, length, drop, slice_index};
 ghost use Rattle.std.specs.List.{flat_map, AllByRecursion};
-ghost use Rattle.dayfile.specs.Bytes.{value, each, laid};
+ghost use Rattle.dayfile.specs.Bytes.{number, value, each, laid};
 
 /// The byte at a place; a byte past the end counts as 0.
-pub(crate) fn byte_at(bytes: &[u8], at: usize) -> u8
+pub fn byte_at(bytes: &[u8], at: usize) -> u8
     ensures { result ≡ slice_index bytes.now at }
 {
-    if at < bytes.len() { bytes[at] } else { 0 }
+    bytes.get(at).copied().unwrap_or(0)
 }
 
-/// The two-byte number at a place, the lowest byte first.
-pub(crate) fn half_at(bytes: &[u8], at: usize) -> u16
-    requires { at < 2 ^ 32 }
+/// The two-byte number at a place, the lowest byte first; a byte past the end counts as 0.
+pub fn half_at(bytes: &[u8], at: usize) -> u16
     ensures { result ≡ value at 2 bytes.now }
 {
-    u16::from_le_bytes([byte_at(bytes, at), byte_at(bytes, at + 1)])
+    u16::from_le_bytes(bytes_at(bytes, at))
 }
 
-/// The four-byte number at a place, the lowest byte first.
-pub(crate) fn word_at(bytes: &[u8], at: usize) -> u32
-    requires { at < 2 ^ 32 }
+/// The four-byte number at a place, likewise.
+pub fn word_at(bytes: &[u8], at: usize) -> u32
     ensures { result ≡ value at 4 bytes.now }
 {
-    if at + 4 <= bytes.len() {
-        word_inside(bytes, at)
-    } else {
-        u32::from_le_bytes([
-            byte_at(bytes, at),
-            byte_at(bytes, at + 1),
-            byte_at(bytes, at + 2),
-            byte_at(bytes, at + 3),
-        ])
+    u32::from_le_bytes(bytes_at(bytes, at))
+}
+
+/// The `N` bytes from a place on; a byte past the end counts as 0.
+fn bytes_at<const N: usize>(bytes: &[u8], at: usize) -> [u8; N]
+    ensures { number result ≡ value at N bytes.now }
+{
+    let rest = bytes.get(at..).unwrap_or(&[]);
+    if let Some(whole) = rest.first_chunk::<N>() {
+        return *whole;
     }
+    let mut padded = [0; N];
+    padded[..rest.len()].copy_from_slice(rest);
+    padded
 }
 
 /// The four-byte number at a place, of which no byte is past the end.

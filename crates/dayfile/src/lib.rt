@@ -18,11 +18,12 @@ mod write;
 
 pub use admitted::write_day;
 pub use block::Block;
+pub use bytes::{byte_at, half_at, word_at};
 pub use day::AdmittedDay;
 pub use fault::{Fault, Layer, Place};
 pub use file::{BLOCK, LONGEST, admit, read_block};
 pub use record::{
     DayRecord, Event, Flag, Load, Owner, ParticipantRecord, RealTimeHour, RealTimeRecord, Record,
-    ResourceRecord,
+    ResourceRecord, UnknownNumber,
 };
 pub use write::write_record;

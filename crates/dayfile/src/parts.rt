@@ -3,12 +3,12 @@ ghost use Rattle.std.specs.Prelude.{◌≡◌, ◌+◌, ◌^◌, ◌<◌, ◌≤
 ghost use Rattle.std.specs.Int.{w32};
 ghost use Rattle.std.proofs.Common.{of_z};
 ghost use Rattle.dayfile.specs.Bytes.{digits, laid};
-ghost use Rattle.dayfile.specs.Records.{word_bytes, word_from, signed_bytes, signed_from, flag_number, flag_named, flag_bytes, flag_from, event_number, event_named, event_bytes, event_from, load_bytes, load_from, owner_bytes, owner_from, hour_bytes, hour_from};
+ghost use Rattle.dayfile.specs.Records.{word_bytes, word_from, signed_bytes, signed_from, flag_number, flag_named, FlagNumbered, flag_bytes, flag_from, event_number, event_named, EventNumbered, event_bytes, event_from, load_bytes, load_from, owner_bytes, owner_from, hour_bytes, hour_from};
 ghost use Rattle.dayfile.specs.Widths.{word_long, signed_long, flag_long, event_long, load_long, owner_long, hour_long, four, one, twelve, six};
 ghost use Rattle.dayfile.specs.Writing.{LoadFits, OwnerFits, HourFits};
 
 use crate::bytes::{Part, byte_at, half_at, word_at};
-use crate::record::{Event, Flag, Load, Owner, RealTimeHour};
+use crate::record::{Event, Flag, Load, Owner, RealTimeHour, UnknownNumber};
 
 /// Writes a number into `width` bytes, the lowest byte first.
 pub(crate) fn write_number(block: &mut [u8], at: usize, width: usize, number: u32)
@@ -64,11 +64,23 @@ impl Flag {
     fn named(number: u8) -> Flag
         ensures { result ≡ flag_named number }
     {
+        Flag::try_from(number).unwrap_or(Flag::Scr)
+    }
+}
+
+impl TryFrom<u8> for Flag {
+    type Error = UnknownNumber;
+
+    ghost try_from_gives = { FlagNumbered };
+
+    /// The flag of a number.
+    fn try_from(number: u8) -> Result<Flag, UnknownNumber> {
         match number {
-            0 => Flag::Economic,
-            1 => Flag::Lscpr,
-            2 => Flag::Var,
-            _ => Flag::Scr,
+            0 => Ok(Flag::Economic),
+            1 => Ok(Flag::Lscpr),
+            2 => Ok(Flag::Var),
+            3 => Ok(Flag::Scr),
+            _ => Err(UnknownNumber(number)),
         }
     }
 }
@@ -92,13 +104,25 @@ impl Event {
     fn named(number: u8) -> Event
         ensures { result ≡ event_named number }
     {
+        Event::try_from(number).unwrap_or(Event::OwnRestart)
+    }
+}
+
+impl TryFrom<u8> for Event {
+    type Error = UnknownNumber;
+
+    ghost try_from_gives = { EventNumbered };
+
+    /// The event of a number.
+    fn try_from(number: u8) -> Result<Event, UnknownNumber> {
         match number {
-            0 => Event::Off,
-            1 => Event::PoolRun,
-            2 => Event::SelfRun,
-            3 => Event::Trip,
-            4 => Event::IsoRestart,
-            _ => Event::OwnRestart,
+            0 => Ok(Event::Off),
+            1 => Ok(Event::PoolRun),
+            2 => Ok(Event::SelfRun),
+            3 => Ok(Event::Trip),
+            4 => Ok(Event::IsoRestart),
+            5 => Ok(Event::OwnRestart),
+            _ => Err(UnknownNumber(number)),
         }
     }
 }

@@ -1,5 +1,8 @@
 //! The four records of a day, as plain values: any record at all can be offered to the writer.
 
+use std::error::Error;
+use std::fmt;
+
 /// Regions, of which each has its loads and each Resource one.
 pub const REGIONS: usize = 8;
 /// Hours of an operating day.
@@ -8,7 +11,7 @@ pub const HOURS: usize = 24;
 pub const OWNERS: usize = 8;
 
 /// The day: its date, version and counts.
-#[derive(Clone, Copy)]
+#[derive(Clone, Copy, Debug, PartialEq, Eq)]
 pub struct DayRecord {
     /// 1 is 1 March 2003.
     pub date: u32,
@@ -18,7 +21,7 @@ pub struct DayRecord {
 }
 
 /// A participant's loads in one region.
-#[derive(Clone, Copy)]
+#[derive(Clone, Copy, Debug, Default, PartialEq, Eq)]
 pub struct Load {
     pub day_ahead: u32,
     pub real_time: u32,
@@ -26,7 +29,7 @@ pub struct Load {
 }
 
 /// A participant and what it is charged by.
-#[derive(Clone, Copy)]
+#[derive(Clone, Copy, Debug, PartialEq, Eq)]
 pub struct ParticipantRecord {
     pub number: u32,
     pub loads: [Load; REGIONS],
@@ -36,15 +39,16 @@ pub struct ParticipantRecord {
 }
 
 /// An owner: the rank of its participant in the file, from 0, and its parts of a million.
-#[derive(Clone, Copy)]
+#[derive(Clone, Copy, Debug, Default, PartialEq, Eq)]
 pub struct Owner {
     pub place: u16,
     pub parts: u32,
 }
 
 /// Why a Resource ran in an hour.
-#[derive(Clone, Copy)]
+#[derive(Clone, Copy, Debug, Default, PartialEq, Eq)]
 pub enum Flag {
+    #[default]
     Economic,
     /// Local Second Contingency Protection Resource.
     Lscpr,
@@ -54,8 +58,20 @@ pub enum Flag {
     Scr,
 }
 
+/// A number that no flag and no event has.
+#[derive(Clone, Copy, Debug, PartialEq, Eq)]
+pub struct UnknownNumber(pub u8);
+
+impl fmt::Display for UnknownNumber {
+    fn fmt<W: fmt::Write>(&self, f: &mut fmt::Formatter<W>) -> fmt::Result {
+        write!(f, "no flag or event has the number {}", self.0)
+    }
+}
+
+impl Error for UnknownNumber {}
+
 /// A Resource and its day-ahead hours. Prices are in cents per MWh.
-#[derive(Clone, Copy)]
+#[derive(Clone, Copy, Debug, PartialEq, Eq)]
 pub struct ResourceRecord {
     pub region: u8,
     pub minimum_run_hours: u8,
@@ -75,8 +91,9 @@ pub struct ResourceRecord {
 }
 
 /// What happened to a Resource in an hour.
-#[derive(Clone, Copy)]
+#[derive(Clone, Copy, Debug, Default, PartialEq, Eq)]
 pub enum Event {
+    #[default]
     Off,
     PoolRun,
     SelfRun,
@@ -86,7 +103,7 @@ pub enum Event {
 }
 
 /// A Resource's real-time figures of one hour.
-#[derive(Clone, Copy)]
+#[derive(Clone, Copy, Debug, Default, PartialEq, Eq)]
 pub struct RealTimeHour {
     pub dispatch_kwh: u32,
     pub metered_kwh: u32,
@@ -94,7 +111,7 @@ pub struct RealTimeHour {
 }
 
 /// A Resource's real-time hours.
-#[derive(Clone, Copy)]
+#[derive(Clone, Copy, Debug, PartialEq, Eq)]
 pub struct RealTimeRecord {
     pub number: u32,
     pub economic_minimum_kwh: u32,
@@ -104,7 +121,7 @@ pub struct RealTimeRecord {
 }
 
 /// A record of any of the four kinds.
-#[derive(Clone, Copy)]
+#[derive(Clone, Copy, Debug, PartialEq, Eq)]
 pub enum Record {
     Day(DayRecord),
     Participant(ParticipantRecord),

@@ -1,6 +1,6 @@
-use Rattle.std.proofs.Common.{arith}
-use Rattle.dayfile.proofs.Numbers.{value_two}
+use Rattle.std.proofs.Common.{arith, rules}
+use Rattle.dayfile.proofs.Numbers.{number_two}
 use Rattle.dayfile.proofs.bytes.half_at.Goals as goal
 
 pub returns : goal.returns
-returns c = omega (arith, value_two c.args.at c.args.bytes.now)
+returns c = omega (arith, number_two c.bytes_at.result (search rules))
