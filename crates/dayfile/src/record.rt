@@ -58,13 +58,13 @@ pub enum Flag {
     Scr,
 }
 
-/// A number that no flag and no event has.
+/// A number that no flag has, or no event, whichever was asked for.
 #[derive(Clone, Copy, Debug, PartialEq, Eq)]
 pub struct UnknownNumber(pub u8);
 
 impl fmt::Display for UnknownNumber {
     fn fmt<W: fmt::Write>(&self, f: &mut fmt::Formatter<W>) -> fmt::Result {
-        write!(f, "no flag or event has the number {}", self.0)
+        write!(f, "the number {} is unknown", self.0)
     }
 }
 
