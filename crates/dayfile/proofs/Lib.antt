@@ -15,6 +15,7 @@ pub mod Agains
 pub mod Keepings
 pub mod Tells
 pub mod Walks
+pub mod Chunks
 pub mod FirstRules
 pub mod RuleLaws
 pub mod Chains

@@ -1,5 +1,5 @@
 -- Refusals: each case with its number, its layer and what it tells.
-use Rattle.std.specs.Prelude.{ℕ}
+use Rattle.std.specs.Prelude.{ℕ, List, [], ◌++◌, codes, decimal}
 use Rattle.dayfile.specs.declared.fault.Fault.{Fault}
 use Rattle.dayfile.specs.declared.fault.Fault.TheVariants.{Length, Check, Order, Field, Rising, Owners, Counts, Event, PoolCost, TariffPlaces, PoolWeight, PostingRows, OtherSheet, PostingClosed, Held, NoRow, WithdrawingRows, WithdrawingClosed, NotHeld, ClosingDate, RecordField, RecordOwners, Room, NoResource, GridEvent}
 use Rattle.dayfile.specs.declared.fault.Layer.{Layer}
@@ -52,3 +52,32 @@ layer_of f = (notice f).layer
 
 abbrev pub place_of : Fault → Place
 place_of f = (notice f).place
+
+-- how each is shown in words
+abbrev pub layer_text : Layer → List ℕ
+layer_text File = codes "file"
+layer_text Block = codes "block"
+layer_text End = codes "end"
+layer_text Settling = codes "settling"
+layer_text Posting = codes "posting"
+layer_text Withdrawing = codes "withdrawing"
+layer_text Closing = codes "closing"
+layer_text Writing = codes "writing"
+layer_text Grid = codes "grid"
+
+abbrev pub place_text : Place → List ℕ
+place_text Nowhere = []
+place_text (AtBlock k) = codes "block " ++ decimal k
+place_text (AtField k p) = codes "block " ++ decimal k ++ codes ", byte " ++ decimal p
+place_text (Byte p) = codes "byte " ++ decimal p
+place_text (Hour k h) = codes "block " ++ decimal k ++ codes ", hour " ++ decimal h
+place_text (Pool p) = codes "pool " ++ decimal p
+place_text (Row r) = codes "row " ++ decimal r
+
+-- a place behind what was said before
+abbrev pub place_after : Place → List ℕ
+place_after Nowhere = []
+place_after p = codes ", " ++ place_text p
+
+abbrev pub fault_text : Fault → List ℕ
+fault_text f = codes "refused " ++ decimal (number_of f) ++ codes ", layer " ++ layer_text (layer_of f) ++ place_after (place_of f)

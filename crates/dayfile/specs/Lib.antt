@@ -10,4 +10,5 @@ pub mod Writing
 pub mod Keeping
 pub mod Rules
 pub mod Days
+pub mod Coming
 pub mod WellFormed

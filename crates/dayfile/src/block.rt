@@ -1,7 +1,7 @@
 //! A block of a file, by its kind: its parts, borrowed from the file.
 
 /// A block: each kind shows its parts of the file.
-#[derive(Clone, Copy)]
+#[derive(Clone, Copy, Debug, PartialEq, Eq)]
 pub enum Block<'f> {
     /// D: the date, the version and the two counts.
     Day {

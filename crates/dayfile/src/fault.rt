@@ -5,8 +5,10 @@
 ghost use Rattle.std.specs.Prelude.{◌≡◌};
 ghost use Rattle.dayfile.specs.Faults.{number_of, layer_of, place_of};
 
+use std::fmt;
+
 /// The layer at which a call stops.
-#[derive(Clone, Copy)]
+#[derive(Clone, Copy, Debug, PartialEq, Eq)]
 pub enum Layer {
     File,
     Block,
@@ -21,7 +23,7 @@ pub enum Layer {
 
 /// What a refusal tells besides its number and layer.
 /// Blocks, bytes within a block and rows count from 0, hours and pools from 1.
-#[derive(Clone, Copy)]
+#[derive(Clone, Copy, Debug, PartialEq, Eq)]
 pub enum Place {
     Nowhere,
     Block { block: usize },
@@ -33,7 +35,7 @@ pub enum Place {
 }
 
 /// A refusal.
-#[derive(Clone, Copy)]
+#[derive(Clone, Copy, Debug, PartialEq, Eq)]
 pub enum Fault {
     /// 1: the file is empty, no whole number of blocks, or longer than 128 blocks.
     Length,
@@ -163,3 +165,64 @@ impl Fault {
         }
     }
 }
+
+/// The layer in a word, as `block`.
+impl fmt::Display for Layer {
+    ghost use Rattle.std.specs.Prelude.{Some};
+    ghost use Rattle.dayfile.specs.Faults.{layer_text};
+
+    ghost output = { λ layer. Some (layer_text layer) };
+
+    fn fmt<W: fmt::Write>(&self, f: &mut fmt::Formatter<W>) -> fmt::Result {
+        f.write_str(match self {
+            Layer::File => "file",
+            Layer::Block => "block",
+            Layer::End => "end",
+            Layer::Settling => "settling",
+            Layer::Posting => "posting",
+            Layer::Withdrawing => "withdrawing",
+            Layer::Closing => "closing",
+            Layer::Writing => "writing",
+            Layer::Grid => "grid",
+        })
+    }
+}
+
+/// The place, as `block 3, byte 8`; nothing for [`Place::Nowhere`].
+impl fmt::Display for Place {
+    ghost use Rattle.std.specs.Prelude.{Some};
+    ghost use Rattle.dayfile.specs.Faults.{place_text};
+
+    ghost output = { λ place. Some (place_text place) };
+
+    fn fmt<W: fmt::Write>(&self, f: &mut fmt::Formatter<W>) -> fmt::Result {
+        match *self {
+            Place::Nowhere => Ok(()),
+            Place::Block { block } => write!(f, "block {block}"),
+            Place::Field { block, byte } => write!(f, "block {block}, byte {byte}"),
+            Place::Byte { byte } => write!(f, "byte {byte}"),
+            Place::Hour { block, hour } => write!(f, "block {block}, hour {hour}"),
+            Place::Pool { pool } => write!(f, "pool {pool}"),
+            Place::Row { row } => write!(f, "row {row}"),
+        }
+    }
+}
+
+/// The refusal's number, layer and place, as `refused 4, layer block, block 3, byte 8`.
+impl fmt::Display for Fault {
+    ghost use Rattle.std.specs.Prelude.{Some};
+    ghost use Rattle.dayfile.specs.Faults.{fault_text};
+
+    ghost output = { λ fault. Some (fault_text fault) };
+
+    fn fmt<W: fmt::Write>(&self, f: &mut fmt::Formatter<W>) -> fmt::Result {
+        let number = self.number();
+        let layer = self.layer();
+        match self.place() {
+            Place::Nowhere => write!(f, "refused {number}, layer {layer}"),
+            place => write!(f, "refused {number}, layer {layer}, {place}"),
+        }
+    }
+}
+
+impl std::error::Error for Fault {}

@@ -60,12 +60,11 @@ fn judge_blocks(file: &[u8]) -> Result<Before, Fault>
 }
 
 /// The bytes of block `k`.
-pub(crate) fn block_at(file: &[u8], k: usize) -> &[u8]
+pub(crate) fn block_at(file: &[u8], k: usize) -> &[u8; BLOCK]
     requires { 512 * (k + 1) ≤ length file.now }
-    ensures value { result.now ≡ block file.now k }
-    ensures len { length result.now ≡ 512 }
+    ensures { result.now ≡ block file.now k }
 {
-    &file[512 * k..512 * k + 512]
+    &file.as_chunks::<BLOCK>().0[k]
 }
 
 /// The parts of a block by itself, or the fault.

@@ -7,13 +7,13 @@ ghost use Rattle.dayfile.specs.Files.{nothing, after, checked, in_order, untied,
 use crate::before::Before;
 use crate::bytes::{byte_at, word_at};
 use crate::fault::Fault;
+use crate::file::BLOCK;
 use crate::layout::{check_of, earlier_of, field_fault, table_for};
 use crate::owners::{PLACES, kept};
 use crate::read::read_owners;
 
 /// Whether a block's check is the sum over its bytes.
-fn is_checked(block: &[u8]) -> bool
-    requires { length block.now ≡ 512 }
+fn is_checked(block: &[u8; BLOCK]) -> bool
     ensures { result ≡ checked block.now }
 {
     word_at(block, 508) == check_of(block)
@@ -42,8 +42,7 @@ fn is_above(last: Option<u32>, number: u32) -> bool
 }
 
 /// Whether a Resource's owners keep their rules, places lying below a limit.
-fn is_owned(block: &[u8], limit: usize) -> bool
-    requires { length block.now ≡ 512 }
+fn is_owned(block: &[u8; BLOCK], limit: usize) -> bool
     ensures { result ≡ owned limit block.now }
 {
     if block[0] != b'G' {
@@ -53,8 +52,7 @@ fn is_owned(block: &[u8], limit: usize) -> bool
 }
 
 /// The first fault of a block by itself.
-pub(crate) fn judge_alone(block: &[u8]) -> Result<(), Fault>
-    requires { length block.now ≡ 512 }
+pub(crate) fn judge_alone(block: &[u8; BLOCK]) -> Result<(), Fault>
     ensures { result ≡ answer (lone_fault block.now) }
 {
     if !is_checked(block) {
@@ -96,8 +94,7 @@ impl Before {
     }
 
     /// The first fault of block `k`.
-    pub(crate) fn judge(&self, block: &[u8], k: usize) -> Result<(), Fault>
-        requires { length block.now ≡ 512 }
+    pub(crate) fn judge(&self, block: &[u8; BLOCK], k: usize) -> Result<(), Fault>
         ensures { result ≡ answer (block_fault self.now k block.now) }
     {
         if !is_checked(block) {
@@ -120,8 +117,7 @@ impl Before {
     }
 
     /// Where the first faulty field starts: an R block also has to bear the number of the block before it.
-    fn faulty_field(&self, block: &[u8]) -> Option<usize>
-        requires { length block.now ≡ 512 }
+    fn faulty_field(&self, block: &[u8; BLOCK]) -> Option<usize>
         ensures { result ≡ earlier (first_fault (table_for (slice_index block.now 0)) block.now) (untied self.now block.now) }
     {
         let fault = field_fault(table_for(block[0]), block);
@@ -132,8 +128,7 @@ impl Before {
     }
 
     /// Whether a participant or Resource is above the last one.
-    fn is_rising(&self, block: &[u8]) -> bool
-        requires { length block.now ≡ 512 }
+    fn is_rising(&self, block: &[u8; BLOCK]) -> bool
         ensures { result ≡ rising self.now block.now }
     {
         match block[0] {
@@ -144,8 +139,8 @@ impl Before {
     }
 
     /// Takes note of a block.
-    pub(crate) fn note(&mut self, block: &[u8])
-        requires { (length block.now ≡ 512) × ((self.old.participants < 2 ^ 60) × (self.old.resources < 2 ^ 60)) }
+    pub(crate) fn note(&mut self, block: &[u8; BLOCK])
+        requires { (self.old.participants < 2 ^ 60) × (self.old.resources < 2 ^ 60) }
         ensures { self.new ≡ after self.old block.now }
     {
         let number = word_at(block, 4);

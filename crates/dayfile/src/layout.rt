@@ -6,6 +6,7 @@ ghost use Rattle.dayfile.specs.Bytes.{value, weighed};
 ghost use Rattle.dayfile.specs.Layout.{allows, entry_fault, first_fault, earlier, sized, all_sized, table_for, Wide};
 
 use crate::bytes::{byte_at, half_at, word_at, word_inside};
+use crate::file::BLOCK;
 
 /// What a field may hold.
 #[derive(Clone, Copy)]
@@ -516,8 +517,7 @@ pub(crate) fn field_fault(table: &[Entry], block: &[u8]) -> Option<usize>
 ///
 /// Byte i counts in column i % 16, row after row from the last: a row is added to `once`, and `once` to `often`
 /// with each row before it, so that in the end a byte of row j is in `often` j times.
-pub(crate) fn check_of(block: &[u8]) -> u32
-    requires { length block.now ≡ 512 }
+pub fn check_of(block: &[u8; BLOCK]) -> u32
     ensures { result ≡ weighed 0 (take 508 block.now) }
 {
     let mut once: [u32; 16] = [0; 16];

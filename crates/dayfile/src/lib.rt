@@ -4,6 +4,7 @@
 mod admitted;
 mod before;
 mod block;
+mod blocks;
 mod bytes;
 mod day;
 mod fault;
@@ -18,10 +19,12 @@ mod write;
 
 pub use admitted::write_day;
 pub use block::Block;
+pub use blocks::Blocks;
 pub use bytes::{byte_at, half_at, word_at};
 pub use day::AdmittedDay;
 pub use fault::{Fault, Layer, Place};
 pub use file::{BLOCK, LONGEST, admit, read_block};
+pub use layout::check_of;
 pub use record::{
     DayRecord, Event, Flag, Load, Owner, ParticipantRecord, RealTimeHour, RealTimeRecord, Record,
     ResourceRecord, UnknownNumber,

@@ -7,17 +7,18 @@ ghost use Rattle.dayfile.specs.Blocks.{Shows, shown};
 
 use crate::block::Block;
 use crate::bytes::{byte_at, half_at, read_parts, word_at};
+use crate::file::BLOCK;
 use crate::record::{
     DayRecord, Event, Flag, Load, Owner, ParticipantRecord, RealTimeHour, RealTimeRecord, Record,
     ResourceRecord,
 };
 
 /// The parts of a block, by the letter that it begins with.
-pub(crate) fn parts<'f>(block: &'f [u8]) -> Option<Block<'f>>
-    requires { length block.now ≡ 512 }
+pub(crate) fn parts<'f>(block: &'f [u8; BLOCK]) -> Option<Block<'f>>
     ensures { MatchOption result (known (slice_index block.now 0) ≡ false) (λ b. (known (slice_index block.now 0) ≡ true) × Shows block.now b) }
 {
-    match block {
+    let bytes: &[u8] = block;
+    match bytes {
         [b'D', _, _, _, rest @ ..] => Some(Block::Day { head: &rest[0..8] }),
         [b'P', _, _, _, rest @ ..] => Some(Block::Participant {
             number: &rest[0..4],

@@ -8,6 +8,7 @@ ghost use Rattle.dayfile.specs.Files.{answer, lone_fault};
 
 use crate::bytes::write_parts;
 use crate::fault::Fault;
+use crate::file::BLOCK;
 use crate::layout::{check_of, field_fault, table_for};
 use crate::owners::{PLACES, kept};
 use crate::parts::{half, octet, write_number};
@@ -45,8 +46,8 @@ fn compose(rec: &Record) -> [u8; 512]
 }
 
 /// Says why a record that makes this block is not written into so much room.
-fn refuse(rec: &Record, block: &[u8], room: usize) -> Result<(), Fault>
-    requires { (length block.now ≡ 512) × (take 508 block.now ≡ body rec.now) }
+fn refuse(rec: &Record, block: &[u8; BLOCK], room: usize) -> Result<(), Fault>
+    requires { take 508 block.now ≡ body rec.now }
     ensures value { result ≡ answer (unwritten rec.now room) }
 {
     if let Some(byte) = field_fault(table_for(block[0]), block) {
@@ -61,8 +62,7 @@ fn refuse(rec: &Record, block: &[u8], room: usize) -> Result<(), Fault>
 }
 
 /// Writes the check behind a block's first 508 bytes.
-fn seal(block: &mut [u8])
-    requires { length block.old ≡ 512 }
+fn seal(block: &mut [u8; BLOCK])
     ensures { block.new ≡ sealed (take 508 block.old) }
 {
     let check = check_of(block);
@@ -70,8 +70,8 @@ fn seal(block: &mut [u8])
 }
 
 /// Copies a block to the front of a buffer.
-fn overwrite(out: &mut [u8], block: &[u8])
-    requires { (length block.now ≡ 512) × (512 ≤ length out.old) }
+fn overwrite(out: &mut [u8], block: &[u8; BLOCK])
+    requires { 512 ≤ length out.old }
     ensures { out.new ≡ block.now ++ drop 512 out.old }
 {
     out[0..512].copy_from_slice(block);

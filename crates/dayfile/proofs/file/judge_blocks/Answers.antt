@@ -21,7 +21,7 @@ returns-in_err-judge c =
     let f = c.args.file.now in
     let k = c.loop-k.k in
     let a = ap (λ b. answer (block_fault b k (block f k))) (sym c.loop-k.invariant.1)
-    ∙ ap (λ b. answer (block_fault c.loop-k.before k b)) (sym c.block_at-block.ensures.value)
+    ∙ ap (λ b. answer (block_fault c.loop-k.before k b)) (sym c.block_at-block.ensures)
     ∙ sym c.judge.ensures ∙ c.in_err-judge.was in
     let e = block_bad f k (blocks f) c.loop-k-test.true c.in_err-judge.field-0.0 (answer_err _ _ a) in
     let p = err_from_is_err_and c.from_residual.result c.from_residual.ensures.1 in
@@ -32,11 +32,11 @@ loop-k-preserved c =
     let f = c.args.file.now in
     let k = c.loop-k.k in
     let a = ap (λ b. answer (block_fault b k (block f k))) (sym c.loop-k.invariant.1)
-    ∙ ap (λ b. answer (block_fault c.loop-k.before k b)) (sym c.block_at-block.ensures.value)
+    ∙ ap (λ b. answer (block_fault c.loop-k.before k b)) (sym c.block_at-block.ensures)
     ∙ sym c.judge.ensures ∙ c.in_ok-judge.was in
     let n = c.note.ensures in (
       sym (block_good f k (blocks f) c.loop-k-test.true (answer_ok _ a)) ∙ c.loop-k.invariant.0,
-      n ∙ ap (after c.loop-k.before) c.block_at-block.ensures.value ∙ ap (λ b. after b (block f k)) c.loop-k.invariant.1 ∙ sym (standing_next f k),
+      n ∙ ap (after c.loop-k.before) c.block_at-block.ensures ∙ ap (λ b. after b (block f k)) c.loop-k.invariant.1 ∙ sym (standing_next f k),
       omega (arith, ap (λ (b : Before). b.participants) n, after_participants c.loop-k.before c.block_at-block.result.now),
       omega (arith, ap (λ (b : Before). b.resources) n, after_resources c.loop-k.before c.block_at-block.result.now),
     )

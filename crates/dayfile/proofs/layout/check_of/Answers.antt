@@ -11,7 +11,7 @@ pub add_row-requires : goal.add_row-requires
 add_row-requires c =
     let n = length-take 12 (drop 496 c.args.block.now) in
     let s = ap sum (drop-take 496 12 c.args.block.now) in
-    let m = sum_rest_le c.args.block.now 496 (λ i. (c.type_inv.block i).fits) in
+    let m = sum_rest_le c.args.block.now 496 c.fits-block in
     (omega (arith, n), (omega (arith, s, m), omega arith))
 
 pub loop-row-init : goal.loop-row-init
@@ -24,7 +24,7 @@ pub add_row-requires-in-loop-row : goal.add_row-requires-in-loop-row
 add_row-requires-in-loop-row c =
     let i = c.loop-row.row - 1 in
     columns_room c.loop-row.once c.loop-row.often c.args.block.now (take (16 * i + 16 - 16 * i) (drop (16 * i) c.args.block.now)) i c.loop-row.row
-    (omega arith) (omega arith) (omega arith) (row c.args.block.now (16 * i)) c.loop-row.invariant (λ k. (c.type_inv.block k).fits)
+    (omega arith) (omega arith) (omega arith) (row c.args.block.now (16 * i)) c.loop-row.invariant c.fits-block
 
 pub loop-row-preserved : goal.loop-row-preserved
 loop-row-preserved c =
@@ -36,7 +36,7 @@ loop-row-preserved c =
 
 pub columns_sum-requires : goal.columns_sum-requires
 columns_sum-requires c =
-    omega (arith, c.loop-row.invariant.placed, weighed_rest_le c.args.block.now (16 * c.loop-row.row) (λ i. (c.type_inv.block i).fits))
+    omega (arith, c.loop-row.invariant.placed, weighed_rest_le c.args.block.now (16 * c.loop-row.row) c.fits-block)
 
 pub returns : goal.returns
 returns c = c.columns_sum.ensures ∙ columns_all c.loop-row.once c.loop-row.often c.args.block.now c.loop-row.row (omega arith) c.loop-row.invariant

@@ -8,19 +8,19 @@ use Rattle.dayfile.proofs.write.refuse.Goals.{in-Resource+else-not-kept, in_defa
 pub returns-in-Some : goal.returns-in-Some
 returns-in-Some c =
     let r = c.args.rec.now in
-    let f = found r c.args.block.now c.table_for.result.now (Some c.in-Some.byte) c.in-Some.ensures c.table_for.ensures.table c.requires.1 in
+    let f = found r c.args.block.now c.table_for.result.now (Some c.in-Some.byte) c.in-Some.ensures c.table_for.ensures.table c.requires in
     record { value = sym (ap answer (refused_field r c.args.room c.in-Some.byte f)) }
 
 pub returns-then-not-kept : goal.returns-then-not-kept
 returns-then-not-kept c =
     let r = c.args.rec.now in
-    let f = found r c.args.block.now c.table_for.result.now None c.in_default.ensures c.table_for.ensures.table c.requires.1 in
+    let f = found r c.args.block.now c.table_for.result.now None c.in_default.ensures c.table_for.ensures.table c.requires in
     record { value = sym (ap answer (refused_owners r c.args.room f (ap (record_owned 48) c.in-Resource.is ∙ sym c.if-not-kept.ensures))) }
 
 pub returns-then-room-lt512 : goal.returns-then-room-lt512
 returns-then-room-lt512 c =
     let r = c.args.rec.now in
-    let f = found r c.args.block.now c.table_for.result.now None c.in_default.ensures c.table_for.ensures.table c.requires.1 in
+    let f = found r c.args.block.now c.table_for.result.now None c.in_default.ensures c.table_for.ensures.table c.requires in
     let o : record_owned 48 c.args.rec.now ≡ true =
     elim c.match-rec.branch [
       | in-Resource+else-not-kept w ↦ ap (record_owned 48) w.in-Resource.is ∙ sym w.if-not-kept.ensures
@@ -31,7 +31,7 @@ returns-then-room-lt512 c =
 pub returns-else-room-lt512 : goal.returns-else-room-lt512
 returns-else-room-lt512 c =
     let r = c.args.rec.now in
-    let f = found r c.args.block.now c.table_for.result.now None c.in_default.ensures c.table_for.ensures.table c.requires.1 in
+    let f = found r c.args.block.now c.table_for.result.now None c.in_default.ensures c.table_for.ensures.table c.requires in
     let o : record_owned 48 c.args.rec.now ≡ true =
     elim c.match-rec.branch [
       | in-Resource+else-not-kept w ↦ ap (record_owned 48) w.in-Resource.is ∙ sym w.if-not-kept.ensures

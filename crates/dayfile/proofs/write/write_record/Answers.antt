@@ -33,7 +33,7 @@ pub overwrite-requires : goal.overwrite-requires
 overwrite-requires c =
     let r = c.args.rec.now in
     let room = length c.args.out.now in
-    (c.compose-block.ensures.len, (written r room (answer_ok (unwritten r room) c.in_ok-refuse.ensures.value)).ample)
+    (written r room (answer_ok (unwritten r room) c.in_ok-refuse.ensures.value)).ample
 
 pub returns : goal.returns
 returns c =

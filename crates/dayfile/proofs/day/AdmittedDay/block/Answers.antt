@@ -21,4 +21,4 @@ returns-then-k-blocks c =
     let k = c.args.k in
     let p = passed f (accepted_none f c.args.self.now.kept) in
     let l : c.args.k < blocks c.args.self.now.file.now = omega arith in
-    parted c.parts.result _ (block f k) k (blocks f) c.block_at.ensures.value (block_known f k p l) l c.parts.ensures
+    parted c.parts.result _ (block f k) k (blocks f) c.block_at.ensures (block_known f k p l) l c.parts.ensures

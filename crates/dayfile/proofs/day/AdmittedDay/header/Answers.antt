@@ -12,5 +12,5 @@ block_at-requires c =
 pub returns : goal.returns
 returns c =
     let f = c.args.self.now.file.now in
-    let v = c.read_day.ensures ∙ ap (λ b. day_from (part 4 8 b)) c.block_at.ensures.value in
+    let v = c.read_day.ensures ∙ ap (λ b. day_from (part 4 8 b)) c.block_at.ensures in
     record { value = v; first_record = first_record f (passed f (accepted_none f c.args.self.now.kept)) ∙ ap (λ d. Some (Day d)) (sym v) }

@@ -1,0 +1,16 @@
+-- A file as a list of blocks.
+use Rattle.std.proofs.Common.{◌≡◌, ℕ, zero, suc, ◌+◌, ◌*◌, ◌/◌, ◌<◌, List, [], length, get_or, take, drop, ap, ◌∙◌, arith}
+use Rattle.std.proofs.lemmas.List.{drop-drop}
+use Rattle.std.specs.Simd.{first_chunks}
+use Rattle.dayfile.specs.Files.{block, blocks}
+
+-- piece k of a list that is cut into m pieces of n elements
+chunk : {A : Type 0} (n m k : ℕ) (xs : List A) → k < m → get_or (first_chunks n m xs) k [] ≡ take n (drop (n * k) xs)
+chunk n zero k xs h = absurd (omega arith)
+chunk n (suc m) zero xs h = let e : 0 ≡ n * 0 = omega arith in ap (λ i. take n (drop i xs)) e
+chunk n (suc m) (suc k) xs h =
+    let e : n + n * k ≡ n * suc k = omega arith in
+    chunk n m k (drop n xs) (omega arith) ∙ ap (take n) (drop-drop (n * k) n xs ∙ ap (λ i. drop i xs) e)
+
+pub block_chunk : (f : List ℕ) (k : ℕ) → k < blocks f → get_or (first_chunks 512 (length f / 512) f) k [] ≡ block f k
+block_chunk f k h = chunk 512 (length f / 512) k f h
