@@ -81,10 +81,10 @@ pub add_one_mul : (i w : ℕ) → (i + 1) * w ≡ i * w + w
 add_one_mul i w = let e : i + 1 ≡ suc i = omega arith in ap (λ k. k * w) e ∙ omega (arith, suc-mul i w)
 
 -- the next part is read into its place
-pub each_set : {A : Type 0} (read : List ℕ → A) (w : ℕ) (bs : List ℕ) (at p i : ℕ) (xs : List A) (x : A) → i < length xs → p ≡ at + i * w → x ≡ read (drop p bs)
-    → take i xs ≡ each read w i (drop at bs) → take (i + 1) (set xs i x) ≡ each read w (i + 1) (drop at bs)
-each_set read w bs at p i xs x l place got before =
+pub each_set : {A : Type 0} (read : List ℕ → A) (w : ℕ) (bs : List ℕ) (i : ℕ) (xs : List A) (x : A) → i < length xs → x ≡ read (drop (i * w) bs)
+    → take i xs ≡ each read w i bs → take (i + 1) (set xs i x) ≡ each read w (i + 1) bs
+each_set read w bs i xs x l got before =
     take_more_set xs i x l
     ∙ ap (λ t. t ++ (x ∷ [])) before
-    ∙ ap (λ y. each read w i (drop at bs) ++ (y ∷ [])) (got ∙ ap (λ k. read (drop k bs)) place ∙ ap read (sym (drop-drop (i * w) at bs)))
-    ∙ sym (each_more read w i (drop at bs))
+    ∙ ap (λ y. each read w i bs ++ (y ∷ [])) got
+    ∙ sym (each_more read w i bs)

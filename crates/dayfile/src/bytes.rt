@@ -74,16 +74,16 @@ pub(crate) trait Part {
         ensures sound { fits self.now };
 }
 
-/// Reads parts one after the other into all of `parts`.
-pub(crate) fn read_parts<T: Part + Drop>(block: &[u8], at: usize, parts: &mut [T])
-    requires { (at < 2 ^ 16) × (length parts.old < 2 ^ 16) }
-    ensures { parts.new ≡ each T.Part.from T.Part.width (length parts.old) (drop at block.now) }
+/// The first `N` parts of bytes, one after the other.
+pub(crate) fn read_parts<T: Part + Copy + Default, const N: usize>(bytes: &[u8]) -> [T; N]
+    requires { N < 2 ^ 16 }
+    ensures { result ≡ each T.Part.from T.Part.width N bytes.now }
 {
-    let mut p = at;
-    for i in 0..parts.len() {
-        parts[i] = T::read(block, p);
-        p += T::width();
+    let mut parts = [T::default(); N];
+    for (i, part) in parts.iter_mut().enumerate() {
+        *part = T::read(bytes, i * T::width());
     }
+    parts
 }
 
 /// Writes parts one after the other.

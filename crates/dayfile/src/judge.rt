@@ -5,12 +5,12 @@ ghost use Rattle.dayfile.specs.Layout.{first_fault, table_for, earlier};
 ghost use Rattle.dayfile.specs.Files.{nothing, after, checked, in_order, untied, rising, above, owned, block_fault, lone_fault, answer, known};
 
 use crate::before::Before;
-use crate::bytes::{byte_at, word_at};
+use crate::bytes::{byte_at, read_parts, word_at};
 use crate::fault::Fault;
 use crate::file::BLOCK;
 use crate::layout::{check_of, earlier_of, field_fault, table_for};
 use crate::owners::{PLACES, kept};
-use crate::read::read_owners;
+use crate::record::{OWNERS, Owner};
 
 /// Whether a block's check is the sum over its bytes.
 fn is_checked(block: &[u8; BLOCK]) -> bool
@@ -48,7 +48,7 @@ fn is_owned(block: &[u8; BLOCK], limit: usize) -> bool
     if block[0] != b'G' {
         return true;
     }
-    kept(&read_owners(&block[120..168]), block[113] as usize, limit)
+    kept(&read_parts::<Owner, OWNERS>(&block[120..168]), block[113] as usize, limit)
 }
 
 /// The first fault of a block by itself.
