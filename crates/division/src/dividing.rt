@@ -34,7 +34,7 @@ pub fn divide<T: Weighted>(cents: u64, records: &mut [T]) -> Option<()>
 fn take_nothing<T: Weighted>(records: &mut [T])
     ensures { records.new ≡ handed T.Weighted.given records.old (divided 0 (map T.Weighted.weighs records.old)) }
 {
-    for i in 0..records.len() {
-        records[i].take(0);
+    for record in records {
+        record.take(0);
     }
 }
