@@ -1,4 +1,5 @@
 mod Cuts
+mod Follows
 mod Sums
 mod Standing
 mod Slots

@@ -4,3 +4,4 @@ pub mod Findings
 pub mod Outside
 pub mod Agreement
 pub mod Texts
+pub mod Misfits
