@@ -1,7 +1,7 @@
 //! What an explanation says.
 
 /// What was found, and what is allowed: a case for each rule of the day file.
-#[derive(Clone, Copy)]
+#[derive(Clone, Copy, Debug, PartialEq, Eq)]
 pub enum Finding {
     /// The file has so many bytes.
     Length {
@@ -58,7 +58,7 @@ pub enum Finding {
 }
 
 /// A field of a block.
-#[derive(Clone, Copy)]
+#[derive(Clone, Copy, Debug, PartialEq, Eq)]
 pub struct NamedField {
     pub name: FieldName,
     /// Its hour or its region, from 1; 1 for a field that stands once.
@@ -70,7 +70,7 @@ pub struct NamedField {
 }
 
 /// The name of a field; prices, kWh, LMPs, flags and events stand once for each hour, loads once for each region.
-#[derive(Clone, Copy)]
+#[derive(Clone, Copy, Debug, PartialEq, Eq)]
 pub enum FieldName {
     Date,
     Version,
@@ -104,7 +104,7 @@ pub enum FieldName {
 }
 
 /// A rule that owners break. Owners and their slots count from 1, places from 0.
-#[derive(Clone, Copy)]
+#[derive(Clone, Copy, Debug, PartialEq, Eq)]
 pub enum OwnersRule {
     /// An owner's place is not above the last one's.
     Rising {
@@ -135,7 +135,7 @@ pub enum OwnersRule {
 }
 
 /// How many blocks of a kind the day's own block says, and how many were read.
-#[derive(Clone, Copy)]
+#[derive(Clone, Copy, Debug, PartialEq, Eq)]
 pub struct Count {
     pub said: u8,
     pub read: usize,
