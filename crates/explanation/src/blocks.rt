@@ -3,8 +3,7 @@ ghost use Rattle.std.specs.Prelude.{◌≡◌, ◌<◌};
 ghost use Rattle.std.specs.Option.{unwrap_or};
 ghost use Rattle.dayfile.specs.Files.{block, kind, kind_before, number_before, tally, latest};
 
-use crate::bytes::{byte_at, word_at};
-use dayfile::BLOCK;
+use dayfile::{BLOCK, byte_at, word_at};
 
 /// The bytes of block `k`: fewer than a block has, or none, where the file ends before.
 pub(crate) fn block_at(file: &[u8], k: usize) -> &[u8]

@@ -3,9 +3,8 @@ ghost use Rattle.std.specs.Prelude.{◌≡◌, ◌+◌, ◌^◌, ◌<◌, length
 ghost use Rattle.dayfile.specs.Records.{resource_of, owner_from};
 ghost use Rattle.explanation.specs.Shares.{used_rule, sum_rule, unused_rule, owners_rule};
 
-use crate::bytes::{half_at, word_at};
 use crate::finding::OwnersRule;
-use dayfile::Owner;
+use dayfile::{Owner, half_at, word_at};
 
 /// What all owners' parts add up to.
 const WHOLE: u64 = 1_000_000;

@@ -6,11 +6,11 @@ ghost use Rattle.explanation.specs.Outside.{Explains};
 ghost use Rattle.explanation.specs.Agreement.{FieldsAgree};
 
 use crate::blocks::{block_at, count_before, kind_at, kind_before, last_before, number_before};
-use crate::bytes::{byte_at, check_of, word_at};
+use crate::bytes::check_of;
 use crate::finding::{Count, FieldName, Finding};
 use crate::owners::{broken_rule, owners_of};
 use crate::table::{row_at, rows_for};
-use dayfile::{BLOCK, Fault};
+use dayfile::{BLOCK, Fault, byte_at, word_at};
 
 /// What breaks the rule of a refusal, found in the bytes of the file.
 /// A refusal of another layer, or one that does not fit the bytes, is told as `Other`, or by what stands at its place.
