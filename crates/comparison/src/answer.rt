@@ -29,16 +29,13 @@ pub enum Answer {
 }
 
 /// Puts a case to the engine; `out` is room for what it writes.
-pub fn answer_case(case: &Case<'_>, out: &mut [u8]) -> Answer {
-    let answer = match case {
-        Case::File(file) => answer_file(file, out),
-        Case::Block(block) => answer_block(block),
+pub fn answer_case(case: &Case, out: &mut [u8]) -> Answer {
+    match case {
+        Case::File(file) => answer_file(file.as_slice(), out),
+        Case::Block(block) => answer_block(block.as_slice()),
         Case::Record { record, room } => answer_record(record, *room, out),
-    };
-    match answer {
-        Ok(answer) => answer,
-        Err(fault) => Answer::Refused(fault),
     }
+    .unwrap_or_else(Answer::Refused)
 }
 
 /// Admits a file, takes in its records and writes the day back.
@@ -48,32 +45,23 @@ fn answer_file(file: &[u8], out: &mut [u8]) -> Result<Answer, Fault> {
     let mut digest = Digest::new();
     for k in 0..day.blocks() {
         if let Some(record) = day.record(k) {
-            digest.add_record(&record);
+            digest.add(&record);
         }
     }
     write_day(&day, out)?;
     Ok(Answer::Accepted {
         day: day.header(),
         digest: digest.value,
-        same: begins_with(out, file),
+        same: out.starts_with(file),
     })
-}
-
-/// Whether a buffer begins with the bytes of a file.
-fn begins_with(out: &[u8], file: &[u8]) -> bool {
-    file.len() <= out.len() && &out[0..file.len()] == file
 }
 
 /// Reads a block by itself.
 fn answer_block(block: &[u8]) -> Result<Answer, Fault> {
-    let mut whole = [0; BLOCK];
-    if block.len() != BLOCK {
-        return Err(Fault::Length);
-    }
-    whole.copy_from_slice(block);
-    let record = read_block(&whole)?.record();
+    let block = <&[u8; BLOCK]>::try_from(block).map_err(|_| Fault::Length)?;
+    let record = read_block(block)?.record();
     let mut digest = Digest::new();
-    digest.add_record(&record);
+    digest.add(&record);
     Ok(Answer::Shows {
         kind: letter_of(&record),
         digest: digest.value,
@@ -93,9 +81,9 @@ fn letter_of(record: &Record) -> char {
 /// Writes a record into so much room; written, it fills the first block of it.
 fn answer_record(record: &Record, room: usize, out: &mut [u8]) -> Result<Answer, Fault> {
     let room = room.min(out.len());
-    write_record(record, &mut out[0..room])?;
+    write_record(record, &mut out[..room])?;
     let mut digest = Digest::new();
-    digest.add_all(&out[0..room.min(BLOCK)]);
+    digest.add_all(&out[..room.min(BLOCK)]);
     Ok(Answer::Written {
         digest: digest.value,
     })
@@ -126,9 +114,12 @@ impl fmt::Display for Answer {
 
 /// Writes a refusal's number, layer and place.
 fn write_refusal<W: fmt::Write>(fault: Fault, f: &mut fmt::Formatter<W>) -> fmt::Result {
-    let number = fault.number();
-    let layer = layer_name(fault.layer());
-    write!(f, "refused {number} {layer}")?;
+    write!(
+        f,
+        "refused {} {}",
+        fault.number(),
+        layer_name(fault.layer())
+    )?;
     match fault.place() {
         Place::Block { block } => write!(f, " {block}"),
         Place::Field { block, byte } => write!(f, " {block} {byte}"),

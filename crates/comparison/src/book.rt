@@ -2,49 +2,44 @@
 //!
 //! A case begins with a byte: 0 for a file, 1 for a block by itself, 2 for a record. A file or a block goes on with its
 //! length and the patches that make it out of zeros, a record with its letter, its room and its values.
+use crate::entries::Entry;
 use crate::reader::{BadBook, Reader};
 use crate::values::read_record;
 use dayfile::Record;
+use std::alloc::Global;
 
 /// No file of a book is longer: a block more than the longest day file.
 pub const LONGEST: usize = 66_048;
 
 /// A case: what is offered to the engine.
-#[derive(Clone, Copy)]
-pub enum Case<'r> {
-    File(&'r [u8]),
-    Block(&'r [u8]),
+#[derive(Drop)]
+pub enum Case {
+    File(Vec<u8>),
+    Block(Vec<u8>),
     /// A record, to be written into so much room.
     Record { record: Record, room: usize },
 }
 
-/// The next case, if there is one. A file or a block is made in `room`.
-pub fn next_case<'r>(
-    book: &mut Reader<'_>,
-    room: &'r mut [u8],
-) -> Result<Option<Case<'r>>, BadBook> {
-    if book.is_empty() {
-        return Ok(None);
+impl Entry for Case {
+    fn read(book: &mut Reader<'_>, alloc: Global) -> Result<Case, BadBook> {
+        match book.byte()? {
+            0 => Ok(Case::File(read_bytes(book, alloc)?)),
+            1 => Ok(Case::Block(read_bytes(book, alloc)?)),
+            2 => read_offer(book),
+            kind => Err(BadBook::Kind(kind)),
+        }
     }
-    let case = match book.byte()? {
-        0 => Case::File(read_bytes(book, room)?),
-        1 => Case::Block(read_bytes(book, room)?),
-        2 => read_offer(book)?,
-        kind => return Err(BadBook::Kind(kind)),
-    };
-    Ok(Some(case))
 }
 
 /// Zeros overwritten by patches.
-fn read_bytes<'r>(book: &mut Reader<'_>, room: &'r mut [u8]) -> Result<&'r [u8], BadBook> {
+fn read_bytes(book: &mut Reader<'_>, alloc: Global) -> Result<Vec<u8>, BadBook> {
     let length = book.word()? as usize;
-    if length > room.len() {
+    if length > LONGEST {
         return Err(BadBook::Length(length));
     }
-    let bytes = &mut room[0..length];
-    bytes.fill(0);
+    let mut bytes = vec![in alloc; 0; length]?;
     for _patch in 0..book.half()? {
-        read_patch(book, bytes)?;
+        read_patch(book, bytes.as_mut_slice())?;
     }
     Ok(bytes)
 }
@@ -54,15 +49,15 @@ fn read_patch(book: &mut Reader<'_>, bytes: &mut [u8]) -> Result<(), BadBook> {
     let at = book.word()? as usize;
     let length = book.half()? as usize;
     let patch = book.take(length)?;
-    if at > bytes.len() || patch.len() > bytes.len() - at {
-        return Err(BadBook::Patch(at));
-    }
-    bytes[at..at + patch.len()].copy_from_slice(patch);
+    bytes
+        .get_mut(at..at + patch.len())
+        .ok_or(BadBook::Patch(at))?
+        .copy_from_slice(patch);
     Ok(())
 }
 
 /// A record and the room that it is offered.
-fn read_offer<'r>(book: &mut Reader<'_>) -> Result<Case<'r>, BadBook> {
+fn read_offer(book: &mut Reader<'_>) -> Result<Case, BadBook> {
     let kind = book.byte()?;
     let room = book.half()? as usize;
     let record = read_record(book, kind)?;

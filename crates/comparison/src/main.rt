@@ -5,13 +5,15 @@ mod answer;
 mod book;
 mod digest;
 mod divisions;
+mod entries;
 mod reader;
 mod values;
 
 use answer::answer_case;
-use book::{LONGEST, next_case};
-use divisions::{MOST, NO_LINE, divide_all};
-use reader::Reader;
+use book::{Case, LONGEST};
+use divisions::divide_all;
+use entries::Entries;
+use std::alloc::Global;
 use std::fmt::Write;
 use std::fs;
 
@@ -25,34 +27,24 @@ fn main(rt: HostRuntime) -> anyhow::Result<()> {
 }
 
 fn run(rt: &HostRuntime) -> anyhow::Result<()> {
-    let cases = fs::read(rt, CASES)?;
     let mut lines = String::new(rt.alloc());
-    answer_all(
-        cases.as_slice(),
-        &mut [0; LONGEST],
-        &mut [0; LONGEST],
-        &mut lines,
-    )?;
+    let cases = fs::read(rt, CASES)?;
+    answer_all(cases.as_slice(), rt.alloc(), &mut lines)?;
     let divisions = fs::read(rt, DIVISIONS)?;
-    divide_all(divisions.as_slice(), &mut [NO_LINE; MOST], &mut lines)?;
+    divide_all(divisions.as_slice(), rt.alloc(), &mut lines)?;
     rt.print(lines.as_str())?;
     Ok(())
 }
 
 /// Writes a line for each case: its number from 0, and the engine's answer.
-/// A case's file is made in `file`, and `out` is room for what the engine writes.
-fn answer_all(
-    cases: &[u8],
-    file: &mut [u8],
-    out: &mut [u8],
-    lines: &mut String,
-) -> anyhow::Result<()> {
-    let mut book = Reader::new(cases);
-    for number in 0..cases.len() {
-        let Some(case) = next_case(&mut book, file)? else {
-            break;
-        };
-        let answer = answer_case(&case, out);
+fn answer_all(cases: &[u8], alloc: Global, lines: &mut String) -> anyhow::Result<()> {
+    let mut out = vec![in alloc; 0; LONGEST]?;
+    // a case has a byte at least, so that there are no more cases than bytes
+    for (number, case) in Entries::<Case>::new(cases, alloc)
+        .take(cases.len())
+        .enumerate()
+    {
+        let answer = answer_case(&case?, out.as_mut_slice());
         writeln!(lines, "{number} {answer}")?;
     }
     Ok(())

@@ -1,4 +1,5 @@
 //! Reads numbers out of bytes, one after the other, the lowest byte first.
+use std::alloc::{AllocError, AllocFailed};
 use std::error::Error;
 use std::fmt;
 
@@ -9,12 +10,14 @@ pub enum BadBook {
     Cut,
     /// A case is of no known kind, or a record's letter is none of the four.
     Kind(u8),
-    /// A file is longer than any that is tried.
+    /// A file is longer than any that is tried, or a division has more weights.
     Length(usize),
     /// A patch goes past the end of its file.
     Patch(usize),
     /// A value is too large for its field, or no flag or event has this number.
     Value(u32),
+    /// There is no memory for what the book says.
+    OutOfMemory,
 }
 
 /// What is left to be read.
@@ -34,43 +37,48 @@ impl<'b> Reader<'b> {
 
     /// The next `count` bytes.
     pub fn take(&mut self, count: usize) -> Result<&'b [u8], BadBook> {
-        if count > self.rest.len() {
-            return Err(BadBook::Cut);
-        }
-        let (taken, rest) = self.rest.split_at(count);
+        let (taken, rest) = self.rest.split_at_checked(count).ok_or(BadBook::Cut)?;
         self.rest = rest;
         Ok(taken)
     }
 
+    /// The next `N` bytes.
+    fn array<const N: usize>(&mut self) -> Result<[u8; N], BadBook> {
+        let (taken, rest) = self.rest.split_first_chunk::<N>().ok_or(BadBook::Cut)?;
+        self.rest = rest;
+        Ok(*taken)
+    }
+
     /// A number in one byte.
     pub fn byte(&mut self) -> Result<u8, BadBook> {
-        match self.take(1)? {
-            [a] => Ok(*a),
-            _ => Err(BadBook::Cut),
-        }
+        Ok(u8::from_le_bytes(self.array()?))
     }
 
     /// A number in two bytes.
     pub fn half(&mut self) -> Result<u16, BadBook> {
-        match self.take(2)? {
-            [a, b] => Ok(u16::from_le_bytes([*a, *b])),
-            _ => Err(BadBook::Cut),
-        }
+        Ok(u16::from_le_bytes(self.array()?))
     }
 
     /// A number in four bytes.
     pub fn word(&mut self) -> Result<u32, BadBook> {
-        match self.take(4)? {
-            [a, b, c, d] => Ok(u32::from_le_bytes([*a, *b, *c, *d])),
-            _ => Err(BadBook::Cut),
-        }
+        Ok(u32::from_le_bytes(self.array()?))
     }
 
     /// A number in eight bytes.
     pub fn long(&mut self) -> Result<u64, BadBook> {
-        let low = self.word()?;
-        let high = self.word()?;
-        Ok(u64::from(high) * 4_294_967_296 + u64::from(low))
+        Ok(u64::from_le_bytes(self.array()?))
+    }
+}
+
+impl From<AllocError> for BadBook {
+    fn from(_error: AllocError) -> BadBook {
+        BadBook::OutOfMemory
+    }
+}
+
+impl<T: Drop> From<AllocFailed<T>> for BadBook {
+    fn from(_error: AllocFailed<T>) -> BadBook {
+        BadBook::OutOfMemory
     }
 }
 
@@ -82,6 +90,7 @@ impl fmt::Display for BadBook {
             BadBook::Length(length) => write!(f, "a case of {length} bytes is too long"),
             BadBook::Patch(at) => write!(f, "a patch at byte {at} goes past the end"),
             BadBook::Value(value) => write!(f, "the value {value} is none of its field"),
+            BadBook::OutOfMemory => write!(f, "there is no memory for a case"),
         }
     }
 }
