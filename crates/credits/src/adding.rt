@@ -1,7 +1,7 @@
 //! Amounts added pool by pool.
 ghost use Rattle.std.specs.Prelude.{◌≡◌, ◌+◌, ◌-◌, ◌^◌, ◌<◌, ◌≤◌, length, replicate, if◌then◌else◌, nat_lt, slice_index, slice_set};
 
-use crate::amounts::{POOLS, PoolAmounts};
+use crate::amounts::{POOLS, Pool, PoolAmounts};
 
 impl PoolAmounts {
     /// Nothing in any pool.
@@ -23,11 +23,11 @@ impl PoolAmounts {
     }
 
     /// Adds cents to a pool.
-    pub(crate) fn add(&mut self, pool: usize, cents: u64)
-        requires { (1 ≤ pool) × ((pool ≤ 21) × (slice_index self.old.cents (pool - 1) + cents < 2 ^ 64)) }
-        ensures value { self.new.cents ≡ slice_set self.old.cents (pool - 1) (slice_index self.old.cents (pool - 1) + cents) }
+    pub(crate) fn add(&mut self, pool: Pool, cents: u64)
+        requires { slice_index self.old.cents (pool.number - 1) + cents < 2 ^ 64 }
+        ensures value { self.new.cents ≡ slice_set self.old.cents (pool.number - 1) (slice_index self.old.cents (pool.number - 1) + cents) }
         ensures wide { length self.new.cents ≡ 21 }
     {
-        self.cents[pool - 1] += cents;
+        self.cents[pool.number - 1] += cents;
     }
 }

@@ -2,13 +2,12 @@
 ghost use Rattle.std.specs.Prelude.{◌≡◌, ◌<◌, ◌≤◌, replicate};
 ghost use Rattle.std.specs.List.{AllByRecursion};
 ghost use Rattle.credits.specs.Resources.{Kept, resources_of};
-ghost use Rattle.credits.specs.Grids.{market_pool, cell, by_pool, grid_of, Allotted};
+ghost use Rattle.credits.specs.Grids.{market_flag, market_pool, cell, by_pool, grid_of, Allotted};
 ghost use Rattle.credits.specs.Crediting.{Allocates};
 ghost use Rattle.credits.specs.Laws.{LawfulCredits};
-ghost use Rattle.credits.specs.declared.pool.Market.TheVariants.{DayAhead, RealTime};
 
 use crate::allocation::allocate;
-use crate::amounts::PoolAmounts;
+use crate::amounts::{Pool, PoolAmounts};
 use crate::grid::Grid;
 use crate::hourly::HourlyCents;
 use crate::pool::Market;
@@ -17,26 +16,24 @@ use crate::resources::find_resource;
 use dayfile::{AdmittedDay, Fault, Flag};
 
 impl ResourceDay {
-    /// The pool of a day-ahead hour.
-    pub(crate) fn day_ahead_pool(&self, hour: usize) -> usize
+    /// The flag of an hour; without a real-time record a real-time hour is economic, and gets nothing.
+    fn flag(&self, market: Market, hour: usize) -> Flag
         requires { (hour < 24) × (Kept 48 self.now) }
-        ensures value { result ≡ market_pool DayAhead self.now hour }
-        ensures from_one { (1 ≤ result) × (result ≤ 21) }
+        ensures { result ≡ market_flag market self.now hour }
     {
-        Market::DayAhead.pool(self.resource.flags[hour], self.resource.region)
+        match (market, &self.real_time) {
+            (Market::DayAhead, _) => self.resource.flags[hour],
+            (Market::RealTime, Some(real_time)) => real_time.flags[hour],
+            (Market::RealTime, None) => Flag::Economic,
+        }
     }
 
-    /// The pool of a real-time hour; without a real-time record it is that of an economic hour, which gets nothing.
-    pub(crate) fn real_time_pool(&self, hour: usize) -> usize
+    /// The pool of an hour.
+    pub(crate) fn pool(&self, market: Market, hour: usize) -> Pool
         requires { (hour < 24) × (Kept 48 self.now) }
-        ensures value { result ≡ market_pool RealTime self.now hour }
-        ensures from_one { (1 ≤ result) × (result ≤ 21) }
+        ensures { result.number ≡ market_pool market self.now hour }
     {
-        let flag = match &self.real_time {
-            Some(real_time) => real_time.flags[hour],
-            None => Flag::Economic,
-        };
-        Market::RealTime.pool(flag, self.resource.region)
+        market.pool(self.flag(market, hour), self.resource.region)
     }
 }
 
@@ -57,8 +54,8 @@ fn hour_row(unit: &ResourceDay, cents: &HourlyCents, hour: usize) -> PoolAmounts
     ensures { result ≡ by_pool (cell unit.now hour) }
 {
     let mut row = PoolAmounts::none();
-    row.add(unit.day_ahead_pool(hour), cents.day_ahead[hour]);
-    row.add(unit.real_time_pool(hour), cents.real_time[hour]);
+    row.add(unit.pool(Market::DayAhead, hour), cents.day_ahead[hour]);
+    row.add(unit.pool(Market::RealTime, hour), cents.real_time[hour]);
     row
 }
 

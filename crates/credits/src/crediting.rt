@@ -12,6 +12,7 @@ use crate::amounts::{POOLS, PoolAmounts};
 use crate::credits::{Credits, PLACES};
 use crate::hourly::HourlyCents;
 use crate::owners::{owners_of, share_out};
+use crate::pool::Market;
 use crate::resource::ResourceDay;
 use crate::resources::resource_at;
 use dayfile::{AdmittedDay, Fault, Record};
@@ -45,13 +46,13 @@ fn credit_hours(unit: &ResourceDay, cents: &HourlyCents, amounts: &mut [PoolAmou
     for hour in 0..24 {
         share_out(
             cents.day_ahead[hour],
-            unit.day_ahead_pool(hour),
+            unit.pool(Market::DayAhead, hour),
             owners,
             amounts,
         );
         share_out(
             cents.real_time[hour],
-            unit.real_time_pool(hour),
+            unit.pool(Market::RealTime, hour),
             owners,
             amounts,
         );

@@ -5,7 +5,7 @@ ghost use Rattle.credits.specs.Weighing.{cut, cut_light, placed_at, placed_below
 ghost use Rattle.credits.specs.Grids.{amount, Wide, Below};
 ghost use Rattle.credits.specs.Owning.{owned_cents, of_owner, booked};
 
-use crate::amounts::PoolAmounts;
+use crate::amounts::{Pool, PoolAmounts};
 use crate::hours::HEAVIEST;
 use crate::owner::OwnerShare;
 use dayfile::ResourceRecord;
@@ -77,12 +77,11 @@ pub(crate) fn owners_of(resource: &ResourceRecord) -> [OwnerShare; 8]
 }
 
 /// Books each record's share to its participant's place, in a pool.
-fn book<T: Sharing>(records: &[T], pool: usize, amounts: &mut [PoolAmounts])
-    requires pool { (1 ≤ pool) × (pool ≤ 21) }
+fn book<T: Sharing>(records: &[T], pool: Pool, amounts: &mut [PoolAmounts])
     requires rows { (Wide 48 amounts.old) × (length records.now ≤ 48) }
     requires small { (Below 1000000000000000000 amounts.old) × (AllByRecursion (λ x. T.Weighted.holds x ≤ 100000000000) records.now) }
     ensures wide { Wide 48 amounts.new }
-    ensures booked { (i p : ℕ) → i < 48 → 1 ≤ p → p ≤ 21 → amount amounts.new i p ≡ amount amounts.old i p + (if nat_eq p pool then booked T.Placed.stands T.Weighted.holds i records.now else 0) }
+    ensures booked { (i p : ℕ) → i < 48 → 1 ≤ p → p ≤ 21 → amount amounts.new i p ≡ amount amounts.old i p + (if nat_eq p pool.number then booked T.Placed.stands T.Weighted.holds i records.now else 0) }
 {
     for record in records {
         amounts[record.place()].add(pool, record.share());
@@ -92,17 +91,16 @@ fn book<T: Sharing>(records: &[T], pool: usize, amounts: &mut [PoolAmounts])
 /// Divides cents over owners, and books each one's share to its place in a pool.
 pub(crate) fn share_out(
     cents: u64,
-    pool: usize,
+    pool: Pool,
     owners: &mut [OwnerShare],
     amounts: &mut [PoolAmounts],
 )
-    requires pool { (1 ≤ pool) × (pool ≤ 21) }
     requires rows { Wide 48 amounts.old }
     requires owners { (length owners.old ≤ 8) × ((AllByRecursion (λ o. o.place < 48) owners.old) × (sum (map (λ o. o.parts) owners.old) ≡ 1000000)) }
     requires small { (Below 500000000000000000 amounts.old) × (cents ≤ 100000000000) }
     ensures wide { Wide 48 amounts.new }
     ensures grown { (most : ℕ) → Below most amounts.old → Below (most + 100000000000) amounts.new }
-    ensures booked { (i p : ℕ) → i < 48 → 1 ≤ p → p ≤ 21 → amount amounts.new i p ≡ amount amounts.old i p + (if nat_eq p pool then owned_cents i (map (λ o. o.place) owners.old) (map (λ o. o.parts) owners.old) cents else 0) }
+    ensures booked { (i p : ℕ) → i < 48 → 1 ≤ p → p ≤ 21 → amount amounts.new i p ≡ amount amounts.old i p + (if nat_eq p pool.number then owned_cents i (map (λ o. o.place) owners.old) (map (λ o. o.parts) owners.old) cents else 0) }
     ensures same_places { map (λ o. o.place) owners.new ≡ map (λ o. o.place) owners.old }
     ensures same_parts { map (λ o. o.parts) owners.new ≡ map (λ o. o.parts) owners.old }
 {

@@ -2,10 +2,11 @@
 ghost use Rattle.std.specs.Prelude.{◌≡◌, ◌≤◌};
 ghost use Rattle.credits.specs.Pools.{pool_of};
 
+use crate::amounts::Pool;
 use dayfile::Flag;
 
 /// A market: the day before, or the day itself.
-#[derive(Clone, Copy)]
+#[derive(Clone, Copy, Debug, PartialEq, Eq)]
 pub enum Market {
     DayAhead,
     RealTime,
@@ -14,13 +15,12 @@ pub enum Market {
 impl Market {
     /// The pool of an hour by its flag and the Resource's region: 1 day-ahead economic, 2 day-ahead voltage support,
     /// 3 real-time economic, 4 real-time SCR, 5 real-time voltage support, 6 to 13 day-ahead and 14 to 21 real-time LSCPR.
-    pub(crate) fn pool(self, flag: Flag, region: u8) -> usize
+    pub(crate) fn pool(self, flag: Flag, region: u8) -> Pool
         requires { (1 ≤ region) × (region ≤ 8) }
-        ensures value { result ≡ pool_of self flag region }
-        ensures from_one { (1 ≤ result) × (result ≤ 21) }
+        ensures { result.number ≡ pool_of self flag region }
     {
         let region = region as usize;
-        match (self, flag) {
+        let number = match (self, flag) {
             // no admitted day has SCR day-ahead
             (Market::DayAhead, Flag::Economic | Flag::Scr) => 1,
             (Market::DayAhead, Flag::Var) => 2,
@@ -29,6 +29,7 @@ impl Market {
             (Market::RealTime, Flag::Scr) => 4,
             (Market::RealTime, Flag::Var) => 5,
             (Market::RealTime, Flag::Lscpr) => 13 + region,
-        }
+        };
+        Pool { number }
     }
 }

@@ -37,43 +37,31 @@ cells x h cents p q a e f n =
 
 pub add-requires : goal.add-requires
 add-requires c =
-    let b = c.day_ahead_pool.ensures.from_one in (
-      b.0,
-      (
-        b.1,
-        omega (
-          arith,
-          none_at c.day_ahead_pool.result b.0 b.1 c.none-row.result.cents c.none-row.ensures,
-          get_or_small 100000000000 c.args.cents.now.day_ahead c.args.hour c.requires.1.1.day_ahead_small,
-        ),
-      ),
+    let p = c.pool.result in
+    omega (
+      arith,
+      none_at p.number p.from_one p.few c.none-row.result.cents c.none-row.ensures,
+      get_or_small 100000000000 c.args.cents.now.day_ahead c.args.hour c.requires.1.1.day_ahead_small,
     )
 
 pub add-requires-2 : goal.add-requires-2
 add-requires-2 c =
-    let b = c.real_time_pool.ensures.from_one in
-    let d = c.day_ahead_pool.ensures.from_one in (
-      b.0,
-      (
-        b.1,
-        omega (
-          arith,
-          once_small c.day_ahead_pool.result (get_or c.args.cents.now.day_ahead c.args.hour 0) d.0 d.1
-              c.none-row.result.cents c.add.new.self.cents c.none-row.ensures c.add.ensures.value c.real_time_pool.result b.0 b.1,
-          get_or_small 100000000000 c.args.cents.now.day_ahead c.args.hour c.requires.1.1.day_ahead_small,
-          get_or_small 100000000000 c.args.cents.now.real_time c.args.hour c.requires.1.1.real_time_small,
-        ),
-      ),
+    let p = c.pool.result in
+    let q = c.pool-2.result in
+    omega (
+      arith,
+      once_small p.number (get_or c.args.cents.now.day_ahead c.args.hour 0) p.from_one p.few
+          c.none-row.result.cents c.add.new.self.cents c.none-row.ensures c.add.ensures.value q.number q.from_one q.few,
+      get_or_small 100000000000 c.args.cents.now.day_ahead c.args.hour c.requires.1.1.day_ahead_small,
+      get_or_small 100000000000 c.args.cents.now.real_time c.args.hour c.requires.1.1.real_time_small,
     )
 
 pub returns : goal.returns
 returns c =
-    let b = c.real_time_pool.ensures.from_one in
-    let d = c.day_ahead_pool.ensures.from_one in
-    let p = c.day_ahead_pool.result in
-    let q = c.real_time_pool.result in
+    let p = c.pool.result in
+    let q = c.pool-2.result in
     let m = get_or c.args.cents.now.day_ahead c.args.hour 0 in
     let n = get_or c.args.cents.now.real_time c.args.hour 0 in
-    let once = once_is p m d.0 d.1 c.none-row.result.cents c.add.new.self.cents c.none-row.ensures c.add.ensures.value in
-    let twice = pool_added_to 21 (lone p m) q b.0 b.1 n c.add.new.self.cents c.add-2.new.self.cents once c.add-2.ensures.value in
-    ap (λ xs. record { cents = xs }) (twice ∙ ap (λ g. map g (range_with_len 1 21)) (fun_ext (cells c.args.unit.now c.args.hour c.args.cents.now p q c.requires.1.1 c.day_ahead_pool.ensures.value c.real_time_pool.ensures.value)))
+    let once = once_is p.number m p.from_one p.few c.none-row.result.cents c.add.new.self.cents c.none-row.ensures c.add.ensures.value in
+    let twice = pool_added_to 21 (lone p.number m) q.number q.from_one q.few n c.add.new.self.cents c.add-2.new.self.cents once c.add-2.ensures.value in
+    ap (λ xs. record { cents = xs }) (twice ∙ ap (λ g. map g (range_with_len 1 21)) (fun_ext (cells c.args.unit.now c.args.hour c.args.cents.now p.number q.number c.requires.1.1 c.pool.ensures c.pool-2.ensures)))

@@ -26,7 +26,6 @@ loop-hour-init c =
 pub share_out-requires : goal.share_out-requires
 share_out-requires c =
     record {
-      pool = c.day_ahead_pool.ensures.from_one;
       rows = c.loop-hour.invariant.0;
       owners = owners_fit c.args.unit.now.resource c.loop-hour.owners c.requires.resource.0.resource c.loop-hour.invariant.1 c.loop-hour.invariant.2;
       small = (
@@ -40,7 +39,6 @@ share_out-requires-in-loop-hour c =
     let before = c.loop-hour.invariant in
     let first = c.share_out.ensures in
     record {
-      pool = c.real_time_pool.ensures.from_one;
       rows = first.wide;
       owners = owners_fit c.args.unit.now.resource c.share_out.new.owners c.requires.resource.0.resource (first.same_places ∙ before.1) (first.same_parts ∙ before.2);
       small = (
@@ -61,8 +59,8 @@ loop-hour-preserved c =
       second.same_parts ∙ first.same_parts ∙ before.2,
       λ most b i p. omega (arith, second.grown _ (first.grown _ (before.3 most b)) i p),
       λ i p l one most.
-          let d = market_entry DayAhead x h i p _ _ _ _ _ _ c.day_ahead_pool.ensures.value (ap (λ xs. get_or xs h 0) c.requires.resource.1.day_ahead) before.1 before.2 (first.booked i p l one most) in
-          let r = market_entry RealTime x h i p _ _ _ _ _ _ c.real_time_pool.ensures.value (ap (λ xs. get_or xs h 0) c.requires.resource.1.real_time) (first.same_places ∙ before.1) (first.same_parts ∙ before.2) (second.booked i p l one most) in
+          let d = market_entry DayAhead x h i p _ _ _ _ _ _ c.pool.ensures (ap (λ xs. get_or xs h 0) c.requires.resource.1.day_ahead) before.1 before.2 (first.booked i p l one most) in
+          let r = market_entry RealTime x h i p _ _ _ _ _ _ c.pool-in-loop-hour.ensures (ap (λ xs. get_or xs h 0) c.requires.resource.1.real_time) (first.same_places ∙ before.1) (first.same_parts ∙ before.2) (second.booked i p l one most) in
           omega (arith, d, r, before.4 i p l one most, cell_owned x h i p c.requires.resource.0, total_more (λ k. owned_cents i (owner_places x.resource) (owner_parts x.resource) (cell x k p)) h),
     )
 

@@ -14,14 +14,14 @@ pub add-requires : goal.add-requires
 add-requires g c =
     let light = held_small g.T.Weighted.holds c.args.records.now c.loop-record.record-index c.record-item.result c.share.result 100000000000
     c.loop-record-test.true c.record-item.is c.share.ensures c.requires.small.1 in
-    (c.requires.pool.0, (c.requires.pool.1, omega (arith, light, c.loop-record.invariant.1 c.place.result c.args.pool, c.requires.rows.1)))
+    omega (arith, light, c.loop-record.invariant.1 c.place.result c.args.pool.number, c.requires.rows.1)
 
 pub loop-record-preserved : goal.loop-record-preserved
 loop-record-preserved g c =
     let rows = c.loop-record.amounts in
     let j = c.loop-record.record-index in
     let k = c.place.result in
-    let pool = c.args.pool in
+    let pool = c.args.pool.number in
     let cents = c.share.result in
     let row = c.add.new.self in
     let stands = g.T.Placed.stands in
@@ -29,8 +29,8 @@ loop-record-preserved g c =
     let x = c.record-item.result in
     let l : k < 48 = omega (arith, c.place.ensures.value, g.T.Placed.placing.below x) in
     let light = held_small holds c.args.records.now j x cents 100000000000 c.loop-record-test.true c.record-item.is c.share.ensures c.requires.small.1 in
-    let w = wide_added rows k pool cents row c.loop-record.invariant.0 l c.requires.pool.0 c.requires.pool.1 c.add.ensures.wide c.add.ensures.value in
-    let added = amount_added rows k pool cents row c.loop-record.invariant.0 l c.requires.pool.0 c.requires.pool.1 c.add.ensures.wide c.add.ensures.value in (
+    let w = wide_added rows k pool cents row c.loop-record.invariant.0 l c.args.pool.from_one c.args.pool.few c.add.ensures.wide c.add.ensures.value in
+    let added = amount_added rows k pool cents row c.loop-record.invariant.0 l c.args.pool.from_one c.args.pool.few c.add.ensures.wide c.add.ensures.value in (
       w,
       below_from _ _ w (λ i p _ one _.
           omega (arith, light, add_few (eqb p pool) (eqb k i) (amount rows i p) (amount (set rows k row) i p) cents _ (added i p one) (c.loop-record.invariant.1 i p))),
@@ -46,6 +46,6 @@ returns g c =
       wide = c.loop-record.invariant.0;
       booked = λ i p li one most.
           c.loop-record.invariant.2 i p li one most
-          ∙ ap (λ xs. amount c.args.amounts.now i p + cond (eqb p c.args.pool) (booked g.T.Placed.stands g.T.Weighted.holds i xs) 0)
+          ∙ ap (λ xs. amount c.args.amounts.now i p + cond (eqb p c.args.pool.number) (booked g.T.Placed.stands g.T.Weighted.holds i xs) 0)
           (take_all c.loop-record.record-index c.args.records.now c.loop-record-test.false);
     }

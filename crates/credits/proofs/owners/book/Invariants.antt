@@ -8,4 +8,4 @@ invariant-loop-record g l =
     Wide 48 l.amounts
     × Below (1000000000000000000 + l.record-index * 100000000000) l.amounts
     × ((i p : ℕ) → i < 48 → 1 ≤ p → p ≤ 21 → amount l.amounts i p
-    ≡ amount l.initial.amounts i p + cond (eqb p l.pool) (booked g.T.Placed.stands g.T.Weighted.holds i (take l.record-index l.records)) 0)
+    ≡ amount l.initial.amounts i p + cond (eqb p l.pool.number) (booked g.T.Placed.stands g.T.Weighted.holds i (take l.record-index l.records)) 0)

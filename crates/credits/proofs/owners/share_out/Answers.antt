@@ -9,7 +9,6 @@ pub book-requires : goal.book-requires
 book-requires c =
     let d = c.divide.ensures.answer ∙ ap (λ b. cond b None (Some tt)) (parts_divide (λ o. o.parts) c.args.cents c.args.owners.now c.requires.owners.1.1) in
     record {
-      pool = c.requires.pool;
       rows = (c.requires.rows, omega (arith, c.divide.auto.records, c.requires.owners));
       small = (
         λ i p. omega (arith, c.requires.small.0 i p),
@@ -21,7 +20,7 @@ book-requires c =
 pub returns-then-cents-gt0 : goal.returns-then-cents-gt0
 returns-then-cents-gt0 c =
     let cents = c.args.cents in
-    let pool = c.args.pool in
+    let pool = c.args.pool.number in
     let xs = c.args.owners.now in
     let ys = c.divide.new.records in
     let before = c.args.amounts.now in
@@ -51,7 +50,7 @@ returns-else-cents-gt0 c =
     record {
       wide = c.requires.rows;
       grown = λ most b i p. omega (arith, b i p);
-      booked = λ i p _ _ _. add_none (eqb p c.args.pool) (amount c.args.amounts.now i p) _ (owned_nothing i _ _ c.args.cents (omega arith));
+      booked = λ i p _ _ _. add_none (eqb p c.args.pool.number) (amount c.args.amounts.now i p) _ (owned_nothing i _ _ c.args.cents (omega arith));
       same_places = refl;
       same_parts = refl;
     }
