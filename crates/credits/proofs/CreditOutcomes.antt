@@ -1,27 +1,19 @@
 -- What crediting a day answers and leaves follows from its parts.
-use Rattle.std.proofs.Common.{◌≡◌, ℕ, ◌+◌, ◌-◌, ◌<◌, ◌≤◌, List, map, length, get_or, replicate, Some, None, Ok, Err, Option, Result, sym, refl, ap, ◌∙◌, subst, arith}
+use Rattle.std.proofs.Common.{◌≡◌, ℕ, ◌+◌, ◌-◌, ◌<◌, ◌≤◌, List, map, length, get_or, Some, None, Ok, Err, Option, Result, sym, refl, ap, ◌∙◌, subst, arith}
 use Rattle.std.specs.List.{range_with_len, AllByRecursion}
 use Rattle.std.proofs.lemmas.List.FromFn.{get_or-map-range_with_len, length-map-range_with_len, fill_by_all}
-use Rattle.std.proofs.lemmas.List.{ext_get_or, get_or-replicate}
+use Rattle.std.proofs.lemmas.List.{ext_get_or}
 use Rattle.dayfile.specs.declared.fault.Fault.{Fault}
 use Rattle.dayfile.specs.Files.{or_else}
 use Rattle.credits.specs.declared.amounts.PoolAmounts.{PoolAmounts}
 use Rattle.credits.specs.declared.credits.Credits.{Credits}
 use Rattle.credits.specs.Resources.{Kept, resources_of}
-use Rattle.credits.specs.Grids.{no_amounts, amount, by_pool, Wide, Below}
+use Rattle.credits.specs.Grids.{no_amounts, amount, by_pool, Wide}
 use Rattle.dayfile.specs.Writing.{Done}
 use Rattle.credits.specs.Crediting.{credit_of, pool_cost, credits_of, participants_of, first_event_fault, cost_fault, credit_fault, CreditsDay, column}
 use Rattle.credits.proofs.Costs.{costs_same}
-use Rattle.credits.proofs.Rows.{zeros_at, below_from}
 use Rattle.credits.proofs.SumLaws.{pool_whole}
 use Rattle.credits.proofs.Totals.{total_same}
-
--- 48 rows of nothing
-pub rows_none : (row : PoolAmounts) → row.cents ≡ replicate 21 0 → Wide 48 (replicate 48 row) × Below 0 (replicate 48 row)
-rows_none row e =
-    let at : (i : ℕ) → i < 48 → (get_or (replicate 48 row) i no_amounts).cents ≡ replicate 21 0 = λ i l. ap (λ r. r.cents) (get_or-replicate 48 i row no_amounts l) ∙ e in
-    let wide : Wide 48 (replicate 48 row) = record { rows_long = refl; row_long = λ i l. ap length (at i l) } in
-    (wide, below_from 0 (replicate 48 row) wide (λ i p l _ _. omega (arith, ap (λ c. get_or c (p - 1) 0) (at i l), zeros_at 21 (p - 1))))
 
 -- a row by its amounts
 by_pool_from : (row : PoolAmounts) (f : ℕ → ℕ) → length row.cents ≡ 21 → ((p : ℕ) → 1 ≤ p → p ≤ 21 → get_or row.cents (p - 1) 0 ≡ f p) → row ≡ by_pool f

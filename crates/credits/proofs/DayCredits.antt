@@ -9,7 +9,7 @@ use Rattle.dayfile.specs.Files.{or_else, blocks}
 use Rattle.credits.specs.declared.amounts.PoolAmounts.{PoolAmounts}
 use Rattle.credits.specs.declared.resource.ResourceDay.{ResourceDay}
 use Rattle.credits.specs.Resources.{resource_first, resources_from, resources_of}
-use Rattle.credits.specs.Grids.{amount, Wide, Below}
+use Rattle.credits.specs.Grids.{amount, Below}
 use Rattle.dayfile.specs.Files.{answer as refused_by}
 use Rattle.credits.specs.Crediting.{resource_credit, credit_of, event_fault, first_event_fault}
 use Rattle.credits.proofs.Days.{resources_more, resources_none}
@@ -33,23 +33,21 @@ block_told k (RealTime r ∷ rs) x e = let z : ◌≡◌ {A = ℕ} 0 1 = cc in a
 
 -- WHAT IS CREDITED SO FAR: the Resources before block k, so that those left bring the rest and have the first fault
 pub record CreditedTo (f : List ℕ) (k : ℕ) (rows : List PoolAmounts) : Type 0 where
-  pub wide : Wide 48 rows
   pub below : Below (k * 4800000000000) rows
   pub fault : first_event_fault (resources_from k (drop k (records f))) ≡ first_event_fault (resources_of f)
   pub credits : (i p : ℕ) → i < 48 → 1 ≤ p → p ≤ 21 → amount rows i p + sum_by (resource_credit i p) (resources_from k (drop k (records f))) ≡ credit_of f i p
 
 module _ (f : List ℕ) (rows : List PoolAmounts) where
-  pub credited_none : Wide 48 rows → Below 0 rows → CreditedTo f 0 rows
+  pub credited_none : Below 0 rows → CreditedTo f 0 rows
   unfolding credit_of
-  credited_none w b =
-      record { wide = w; below = b; fault = refl; credits = λ i p _ _ _. omega (arith, b i p) }
+  credited_none b =
+      record { below = b; fault = refl; credits = λ i p _ _ _. omega (arith, b i p) }
 
   -- block k opens no Resource
   pub credited_same : (k : ℕ) → k < blocks f → None ≡ resource_first k (drop k (records f)) → CreditedTo f k rows → CreditedTo f (k + 1) rows
   credited_same k l e c =
       let left = resources_more f k None l e in
       record {
-        wide = c.wide;
         below = λ i p. omega (arith, c.below i p);
         fault = sym (ap first_event_fault left) ∙ c.fault;
         credits = λ i p li one most. omega (arith, ap (sum_by (resource_credit i p)) left, c.credits i p li one most);
@@ -57,14 +55,13 @@ module _ (f : List ℕ) (rows : List PoolAmounts) where
 
   -- block k opens a Resource, which is credited
   pub credited_more : (k : ℕ) (x : ResourceDay) (after : List PoolAmounts) → k < blocks f → Some x ≡ resource_first k (drop k (records f)) → event_fault x ≡ None
-      → Wide 48 after → ((most : ℕ) → Below most rows → Below (most + 4800000000000) after)
+      → ((most : ℕ) → Below most rows → Below (most + 4800000000000) after)
       → ((i p : ℕ) → i < 48 → 1 ≤ p → p ≤ 21 → amount after i p ≡ amount rows i p + resource_credit i p x) → CreditedTo f k rows → CreditedTo f (k + 1) after
   unfolding first_event_fault
-  credited_more k x after l e n w grown added c =
+  credited_more k x after l e n grown added c =
       let xs = resources_from (k + 1) (drop (k + 1) (records f)) in
       let left = resources_more f k (Some x) l e in
       record {
-        wide = w;
         below = λ i p. omega (arith, grown (k * 4800000000000) c.below i p);
         fault = sym (ap first_event_fault left ∙ ap (λ o. or_else o (first_event_fault xs)) n) ∙ c.fault;
         credits = λ i p li one most.

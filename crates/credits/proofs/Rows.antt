@@ -1,6 +1,6 @@
 -- Rows of amounts, to which cents are added place by place.
 use Rattle.std.proofs.Common.{◌≡◌, ℕ, zero, suc, ◌+◌, ◌-◌, ◌<◌, ◌≤◌, cond, eqb, ◌≢◌, List, length, get_or, set, replicate, sym, refl, ap, ◌∙◌, subst, inl, inr, arith}
-use Rattle.std.proofs.lemmas.List.{length-set, get_or-set_same, get_or-set_other, get_or_past}
+use Rattle.std.proofs.lemmas.List.{length-set, get_or-set_same, get_or-set_other, get_or_past, get_or-replicate}
 use Rattle.std.proofs.lemmas.Bool.{cases_eq, cases_lt}
 use Rattle.std.proofs.lemmas.Bool.Decides.{nat_tests}
 use Rattle.credits.specs.declared.amounts.PoolAmounts.{PoolAmounts}
@@ -75,3 +75,10 @@ below_from most rows w h i p =
                 ]
           ]
     ]
+
+-- 48 rows of nothing
+pub rows_none : (row : PoolAmounts) → row.cents ≡ replicate 21 0 → Wide 48 (replicate 48 row) × Below 0 (replicate 48 row)
+rows_none row e =
+    let at : (i : ℕ) → i < 48 → (get_or (replicate 48 row) i no_amounts).cents ≡ replicate 21 0 = λ i l. ap (λ r. r.cents) (get_or-replicate 48 i row no_amounts l) ∙ e in
+    let wide : Wide 48 (replicate 48 row) = record { rows_long = refl; row_long = λ i l. ap length (at i l) } in
+    (wide, below_from 0 (replicate 48 row) wide (λ i p l _ _. omega (arith, ap (λ c. get_or c (p - 1) 0) (at i l), zeros_at 21 (p - 1))))

@@ -2,7 +2,7 @@
 ghost use Rattle.std.specs.Prelude.{◌≡◌, ℕ, ◌+◌, ◌^◌, ◌<◌, ◌≤◌, map, length, replicate, Some, None, OnOk, slice_index};
 ghost use Rattle.std.specs.List.{range_with_len, AllByRecursion};
 ghost use Rattle.credits.specs.Resources.{Kept, resources_of};
-ghost use Rattle.credits.specs.Grids.{stopped, Allotted, amount, Wide, Below};
+ghost use Rattle.credits.specs.Grids.{stopped, Allotted, amount, Below};
 ghost use Rattle.dayfile.specs.Files.{answer as refused_by};
 ghost use Rattle.credits.specs.Crediting.{participants_of, resource_credit, credit_of, event_fault, first_event_fault, cost_fault, column, no_credits, CreditsDay};
 ghost use Rattle.credits.specs.Laws.{CreditsAddUp, CostsWithin, LawfulCredits};
@@ -15,6 +15,7 @@ use crate::owners::{owners_of, share_out};
 use crate::pool::Market;
 use crate::resource::ResourceDay;
 use crate::resources::resource_at;
+use crate::table::Table;
 use dayfile::{AdmittedDay, Fault, Record};
 
 /// The most that a pool may cost in a day, in cents.
@@ -34,12 +35,11 @@ impl Credits {
 }
 
 /// Adds a Resource's credits to its owners' places, hour by hour.
-fn credit_hours(unit: &ResourceDay, cents: &HourlyCents, amounts: &mut [PoolAmounts])
+fn credit_hours(unit: &ResourceDay, cents: &HourlyCents, amounts: &mut Table)
     requires resource { (Kept 48 unit.now) × (Allotted unit.now cents.now) }
-    requires rows { (Wide 48 amounts.old) × (Below 100000000000000000 amounts.old) }
-    ensures wide { Wide 48 amounts.new }
-    ensures grown { (most : ℕ) → Below most amounts.old → Below (most + 4800000000000) amounts.new }
-    ensures credited { (i p : ℕ) → i < 48 → 1 ≤ p → p ≤ 21 → amount amounts.new i p ≡ amount amounts.old i p + resource_credit i p unit.now }
+    requires below { Below 100000000000000000 amounts.old.rows }
+    ensures grown { (most : ℕ) → Below most amounts.old.rows → Below (most + 4800000000000) amounts.new.rows }
+    ensures credited { (i p : ℕ) → i < 48 → 1 ≤ p → p ≤ 21 → amount amounts.new.rows i p ≡ amount amounts.old.rows i p + resource_credit i p unit.now }
 {
     let mut slots = owners_of(&unit.resource);
     let owners = &mut slots[0..unit.resource.owner_count as usize];
@@ -60,13 +60,12 @@ fn credit_hours(unit: &ResourceDay, cents: &HourlyCents, amounts: &mut [PoolAmou
 }
 
 /// Adds a Resource's credits, or tells the hour whose event may not follow.
-fn credit_resource(unit: &ResourceDay, amounts: &mut [PoolAmounts]) -> Result<(), Fault>
+fn credit_resource(unit: &ResourceDay, amounts: &mut Table) -> Result<(), Fault>
     requires resource { (Kept 48 unit.now) × (unit.now.block < 2 ^ 32) }
-    requires rows { (Wide 48 amounts.old) × (Below 100000000000000000 amounts.old) }
+    requires below { Below 100000000000000000 amounts.old.rows }
     ensures answer { result ≡ refused_by (event_fault unit.now) }
-    ensures wide { Wide 48 amounts.new }
-    ensures grown { (most : ℕ) → Below most amounts.old → Below (most + 4800000000000) amounts.new }
-    ensures credited { OnOk result ((i p : ℕ) → i < 48 → 1 ≤ p → p ≤ 21 → amount amounts.new i p ≡ amount amounts.old i p + resource_credit i p unit.now) }
+    ensures grown { (most : ℕ) → Below most amounts.old.rows → Below (most + 4800000000000) amounts.new.rows }
+    ensures credited { OnOk result ((i p : ℕ) → i < 48 → 1 ≤ p → p ≤ 21 → amount amounts.new.rows i p ≡ amount amounts.old.rows i p + resource_credit i p unit.now) }
 {
     match allocate(unit) {
         Ok(cents) => {
@@ -81,12 +80,11 @@ fn credit_resource(unit: &ResourceDay, amounts: &mut [PoolAmounts]) -> Result<()
 }
 
 /// Adds the credits of all Resources.
-fn credit_resources(day: &AdmittedDay<'_>, amounts: &mut [PoolAmounts]) -> Result<(), Fault>
-    requires { (Wide 48 amounts.old) × (Below 0 amounts.old) }
+fn credit_resources(day: &AdmittedDay<'_>, amounts: &mut Table) -> Result<(), Fault>
+    requires { Below 0 amounts.old.rows }
     ensures answer { result ≡ refused_by (first_event_fault (resources_of day.now.file.now)) }
-    ensures wide { Wide 48 amounts.new }
-    ensures below { Below 1000000000000000 amounts.new }
-    ensures credited { OnOk result ((i p : ℕ) → i < 48 → 1 ≤ p → p ≤ 21 → amount amounts.new i p ≡ credit_of day.now.file.now i p) }
+    ensures below { Below 1000000000000000 amounts.new.rows }
+    ensures credited { OnOk result ((i p : ℕ) → i < 48 → 1 ≤ p → p ≤ 21 → amount amounts.new.rows i p ≡ credit_of day.now.file.now i p) }
 {
     for k in 0..day.blocks() {
         if let Some(unit) = resource_at(day, k) {
@@ -96,25 +94,13 @@ fn credit_resources(day: &AdmittedDay<'_>, amounts: &mut [PoolAmounts]) -> Resul
     Ok(())
 }
 
-/// The sum of a pool's credits, which is its cost.
-fn pool_total(amounts: &[PoolAmounts], pool: usize) -> u64
-    requires { (1 ≤ pool) × ((pool ≤ 21) × ((Wide 48 amounts.now) × (Below 1000000000000000 amounts.now))) }
-    ensures { result ≡ column amounts.now pool }
-{
-    let mut total = 0;
-    for place in 0..PLACES {
-        total += amounts[place].in_pool(pool);
-    }
-    total
-}
-
 /// Refuses a pool that costs more than a sheet holds.
-fn check_costs(amounts: &[PoolAmounts]) -> Result<(), Fault>
-    requires { (Wide 48 amounts.now) × (Below 1000000000000000 amounts.now) }
-    ensures { result ≡ refused_by (cost_fault (column amounts.now) 21) }
+fn check_costs(amounts: &Table) -> Result<(), Fault>
+    requires { Below 1000000000000000 amounts.now.rows }
+    ensures { result ≡ refused_by (cost_fault (column amounts.now.rows) 21) }
 {
     for pool in 1..=POOLS {
-        if pool_total(amounts, pool) > DEAREST_POOL {
+        if amounts.pool_total(pool) > DEAREST_POOL {
             return Err(Fault::PoolCost { pool: pool as u8 });
         }
     }
@@ -155,7 +141,7 @@ pub fn credit(day: &AdmittedDay<'_>, credits: &mut Credits) -> Result<(), Fault>
     ensures lawful { AllByRecursion LawfulCredits (resources_of day.now.file.now) }
     ensures costs_within { OnOk result (CostsWithin day.now.file.now) }
 {
-    let mut amounts = [PoolAmounts::none(); PLACES];
+    let mut amounts = Table::none();
     credit_resources(day, &mut amounts)?;
     check_costs(&amounts)?;
     let mut participants = [0; PLACES];
@@ -163,7 +149,7 @@ pub fn credit(day: &AdmittedDay<'_>, credits: &mut Credits) -> Result<(), Fault>
     *credits = Credits {
         count,
         participants,
-        amounts,
+        amounts: amounts.rows,
     };
     Ok(())
 }

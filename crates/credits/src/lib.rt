@@ -35,6 +35,7 @@ mod resource;
 mod resources;
 mod self_schedule;
 mod share;
+mod table;
 mod walk;
 mod walking;
 

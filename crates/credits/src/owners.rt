@@ -2,12 +2,13 @@
 ghost use Rattle.std.specs.Prelude.{◌≡◌, ℕ, ◌+◌, ◌<◌, ◌≤◌, map, length, if◌then◌else◌, sum, nat_eq, refl};
 ghost use Rattle.std.specs.List.{AllByRecursion};
 ghost use Rattle.credits.specs.Weighing.{cut, cut_light, placed_at, placed_below};
-ghost use Rattle.credits.specs.Grids.{amount, Wide, Below};
+ghost use Rattle.credits.specs.Grids.{amount, Below};
 ghost use Rattle.credits.specs.Owning.{owned_cents, of_owner, booked};
 
-use crate::amounts::{Pool, PoolAmounts};
+use crate::amounts::Pool;
 use crate::hours::HEAVIEST;
 use crate::owner::OwnerShare;
+use crate::table::Table;
 use dayfile::ResourceRecord;
 use division::{Placed, Weighted, divide};
 
@@ -77,30 +78,22 @@ pub(crate) fn owners_of(resource: &ResourceRecord) -> [OwnerShare; 8]
 }
 
 /// Books each record's share to its participant's place, in a pool.
-fn book<T: Sharing>(records: &[T], pool: Pool, amounts: &mut [PoolAmounts])
-    requires rows { (Wide 48 amounts.old) × (length records.now ≤ 48) }
-    requires small { (Below 1000000000000000000 amounts.old) × (AllByRecursion (λ x. T.Weighted.holds x ≤ 100000000000) records.now) }
-    ensures wide { Wide 48 amounts.new }
-    ensures booked { (i p : ℕ) → i < 48 → 1 ≤ p → p ≤ 21 → amount amounts.new i p ≡ amount amounts.old i p + (if nat_eq p pool.number then booked T.Placed.stands T.Weighted.holds i records.now else 0) }
+fn book<T: Sharing>(records: &[T], pool: Pool, amounts: &mut Table)
+    requires few { length records.now ≤ 48 }
+    requires small { (Below 1000000000000000000 amounts.old.rows) × (AllByRecursion (λ x. T.Weighted.holds x ≤ 100000000000) records.now) }
+    ensures { (i p : ℕ) → i < 48 → 1 ≤ p → p ≤ 21 → amount amounts.new.rows i p ≡ amount amounts.old.rows i p + (if nat_eq p pool.number then booked T.Placed.stands T.Weighted.holds i records.now else 0) }
 {
     for record in records {
-        amounts[record.place()].add(pool, record.share());
+        amounts.add(record.place(), pool, record.share());
     }
 }
 
 /// Divides cents over owners, and books each one's share to its place in a pool.
-pub(crate) fn share_out(
-    cents: u64,
-    pool: Pool,
-    owners: &mut [OwnerShare],
-    amounts: &mut [PoolAmounts],
-)
-    requires rows { Wide 48 amounts.old }
+pub(crate) fn share_out(cents: u64, pool: Pool, owners: &mut [OwnerShare], amounts: &mut Table)
     requires owners { (length owners.old ≤ 8) × ((AllByRecursion (λ o. o.place < 48) owners.old) × (sum (map (λ o. o.parts) owners.old) ≡ 1000000)) }
-    requires small { (Below 500000000000000000 amounts.old) × (cents ≤ 100000000000) }
-    ensures wide { Wide 48 amounts.new }
-    ensures grown { (most : ℕ) → Below most amounts.old → Below (most + 100000000000) amounts.new }
-    ensures booked { (i p : ℕ) → i < 48 → 1 ≤ p → p ≤ 21 → amount amounts.new i p ≡ amount amounts.old i p + (if nat_eq p pool.number then owned_cents i (map (λ o. o.place) owners.old) (map (λ o. o.parts) owners.old) cents else 0) }
+    requires small { (Below 500000000000000000 amounts.old.rows) × (cents ≤ 100000000000) }
+    ensures grown { (most : ℕ) → Below most amounts.old.rows → Below (most + 100000000000) amounts.new.rows }
+    ensures booked { (i p : ℕ) → i < 48 → 1 ≤ p → p ≤ 21 → amount amounts.new.rows i p ≡ amount amounts.old.rows i p + (if nat_eq p pool.number then owned_cents i (map (λ o. o.place) owners.old) (map (λ o. o.parts) owners.old) cents else 0) }
     ensures same_places { map (λ o. o.place) owners.new ≡ map (λ o. o.place) owners.old }
     ensures same_parts { map (λ o. o.parts) owners.new ≡ map (λ o. o.parts) owners.old }
 {

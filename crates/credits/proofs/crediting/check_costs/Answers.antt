@@ -11,14 +11,14 @@ loop-pool-init c = λ p l h. absurd (omega arith)
 pub loop-pool-preserved : goal.loop-pool-preserved
 loop-pool-preserved c p l h =
     elim (cases_eq p c.loop-pool.pool) [
-      | inl e ↦ omega (arith, ap (column c.args.amounts.now) e, c.pool_total.ensures, c.if-pool_total-gt-DEAREST_POOL.false)
+      | inl e ↦ omega (arith, ap (column c.args.amounts.now.rows) e, c.pool_total.ensures, c.if-pool_total-gt-DEAREST_POOL.false)
       | inr ne ↦ c.loop-pool.invariant p l (omega arith)
     ]
 
 pub returns : goal.returns
-returns c = sym (ap refused_by (costs_fit (column c.args.amounts.now) 21 (λ p l h. c.loop-pool.invariant p l (omega arith))))
+returns c = sym (ap refused_by (costs_fit (column c.args.amounts.now.rows) 21 (λ p l h. c.loop-pool.invariant p l (omega arith))))
 
 pub returns-then-pool_total-gt-DEAREST_POOL : goal.returns-then-pool_total-gt-DEAREST_POOL
 returns-then-pool_total-gt-DEAREST_POOL c =
-    sym (ap refused_by (first_dear (column c.args.amounts.now) c.loop-pool.pool 21 c.loop-pool.auto.pool c.loop-pool-test.true c.loop-pool.invariant
+    sym (ap refused_by (first_dear (column c.args.amounts.now.rows) c.loop-pool.pool 21 c.loop-pool.auto.pool c.loop-pool-test.true c.loop-pool.invariant
     (omega (arith, c.pool_total.ensures, c.if-pool_total-gt-DEAREST_POOL.true))))

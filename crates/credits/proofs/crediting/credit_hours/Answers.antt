@@ -14,7 +14,6 @@ unfolding total
 loop-hour-init c =
     let g = c.args.unit.now.resource in
     let n : g.owner_count - 0 ≡ g.owner_count = omega arith in (
-      c.requires.rows.0,
       ap (λ os. map (λ o. o.place) (take (g.owner_count - 0) os)) c.owners_of-slots.ensures
           ∙ first_owners (λ o. o.place) (λ o. o.place) (λ o. refl) (g.owner_count - 0) g.owners ∙ ap (λ k. map (λ o. o.place) (take k g.owners)) n,
       ap (λ os. map (λ o. o.parts) (take (g.owner_count - 0) os)) c.owners_of-slots.ensures
@@ -26,10 +25,9 @@ loop-hour-init c =
 pub share_out-requires : goal.share_out-requires
 share_out-requires c =
     record {
-      rows = c.loop-hour.invariant.0;
-      owners = owners_fit c.args.unit.now.resource c.loop-hour.owners c.requires.resource.0.resource c.loop-hour.invariant.1 c.loop-hour.invariant.2;
+      owners = owners_fit c.args.unit.now.resource c.loop-hour.owners c.requires.resource.0.resource c.loop-hour.invariant.0 c.loop-hour.invariant.1;
       small = (
-        λ i p. omega (arith, c.loop-hour.invariant.3 100000000000000000 c.requires.rows.1 i p),
+        λ i p. omega (arith, c.loop-hour.invariant.2 100000000000000000 c.requires.below i p),
         get_or_small 100000000000 c.args.cents.now.day_ahead c.loop-hour.hour c.requires.resource.1.day_ahead_small,
       );
     }
@@ -39,10 +37,9 @@ share_out-requires-in-loop-hour c =
     let before = c.loop-hour.invariant in
     let first = c.share_out.ensures in
     record {
-      rows = first.wide;
-      owners = owners_fit c.args.unit.now.resource c.share_out.new.owners c.requires.resource.0.resource (first.same_places ∙ before.1) (first.same_parts ∙ before.2);
+      owners = owners_fit c.args.unit.now.resource c.share_out.new.owners c.requires.resource.0.resource (first.same_places ∙ before.0) (first.same_parts ∙ before.1);
       small = (
-        λ i p. omega (arith, first.grown _ (before.3 100000000000000000 c.requires.rows.1) i p),
+        λ i p. omega (arith, first.grown _ (before.2 100000000000000000 c.requires.below) i p),
         get_or_small 100000000000 c.args.cents.now.real_time c.loop-hour.hour c.requires.resource.1.real_time_small,
       );
     }
@@ -54,14 +51,13 @@ loop-hour-preserved c =
     let before = c.loop-hour.invariant in
     let first = c.share_out.ensures in
     let second = c.share_out-in-loop-hour.ensures in (
-      second.wide,
-      second.same_places ∙ first.same_places ∙ before.1,
-      second.same_parts ∙ first.same_parts ∙ before.2,
-      λ most b i p. omega (arith, second.grown _ (first.grown _ (before.3 most b)) i p),
+      second.same_places ∙ first.same_places ∙ before.0,
+      second.same_parts ∙ first.same_parts ∙ before.1,
+      λ most b i p. omega (arith, second.grown _ (first.grown _ (before.2 most b)) i p),
       λ i p l one most.
-          let d = market_entry DayAhead x h i p _ _ _ _ _ _ c.pool.ensures (ap (λ xs. get_or xs h 0) c.requires.resource.1.day_ahead) before.1 before.2 (first.booked i p l one most) in
-          let r = market_entry RealTime x h i p _ _ _ _ _ _ c.pool-in-loop-hour.ensures (ap (λ xs. get_or xs h 0) c.requires.resource.1.real_time) (first.same_places ∙ before.1) (first.same_parts ∙ before.2) (second.booked i p l one most) in
-          omega (arith, d, r, before.4 i p l one most, cell_owned x h i p c.requires.resource.0, total_more (λ k. owned_cents i (owner_places x.resource) (owner_parts x.resource) (cell x k p)) h),
+          let d = market_entry DayAhead x h i p _ _ _ _ _ _ c.pool.ensures (ap (λ xs. get_or xs h 0) c.requires.resource.1.day_ahead) before.0 before.1 (first.booked i p l one most) in
+          let r = market_entry RealTime x h i p _ _ _ _ _ _ c.pool-in-loop-hour.ensures (ap (λ xs. get_or xs h 0) c.requires.resource.1.real_time) (first.same_places ∙ before.0) (first.same_parts ∙ before.1) (second.booked i p l one most) in
+          omega (arith, d, r, before.3 i p l one most, cell_owned x h i p c.requires.resource.0, total_more (λ k. owned_cents i (owner_places x.resource) (owner_parts x.resource) (cell x k p)) h),
     )
 
 pub returns : goal.returns
@@ -69,9 +65,8 @@ unfolding resource_credit
 returns c =
     let done : c.loop-hour.hour ≡ 24 = omega arith in
     record {
-      wide = c.loop-hour.invariant.0;
-      grown = λ most b i p. omega (arith, c.loop-hour.invariant.3 most b i p);
+      grown = λ most b i p. omega (arith, c.loop-hour.invariant.2 most b i p);
       credited = λ i p l one most.
-          c.loop-hour.invariant.4 i p l one most
-          ∙ ap (λ n. amount c.args.amounts.now i p + total (λ k. owned_cents i (owner_places c.args.unit.now.resource) (owner_parts c.args.unit.now.resource) (cell c.args.unit.now k p)) n) done;
+          c.loop-hour.invariant.3 i p l one most
+          ∙ ap (λ n. amount c.args.amounts.now.rows i p + total (λ k. owned_cents i (owner_places c.args.unit.now.resource) (owner_parts c.args.unit.now.resource) (cell c.args.unit.now k p)) n) done;
     }

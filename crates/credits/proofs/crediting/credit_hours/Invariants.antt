@@ -6,9 +6,8 @@ use Rattle.credits.proofs.crediting.credit_hours.Given as goal
 
 abbrev pub invariant-loop-hour : goal.invariant-loop-hour
 invariant-loop-hour l =
-    Wide 48 l.amounts
-    × (map (λ o. o.place) l.owners ≡ owner_places l.unit.resource)
+    (map (λ o. o.place) l.owners ≡ owner_places l.unit.resource)
     × (map (λ o. o.parts) l.owners ≡ owner_parts l.unit.resource)
-    × ((most : ℕ) → Below most l.initial.amounts → Below (most + l.hour * 200000000000) l.amounts)
-    × ((i p : ℕ) → i < 48 → 1 ≤ p → p ≤ 21 → amount l.amounts i p
-    ≡ amount l.initial.amounts i p + total (λ h. owned_cents i (owner_places l.unit.resource) (owner_parts l.unit.resource) (cell l.unit h p)) l.hour)
+    × ((most : ℕ) → Below most l.initial.amounts.rows → Below (most + l.hour * 200000000000) l.amounts.rows)
+    × ((i p : ℕ) → i < 48 → 1 ≤ p → p ≤ 21 → amount l.amounts.rows i p
+    ≡ amount l.initial.amounts.rows i p + total (λ h. owned_cents i (owner_places l.unit.resource) (owner_parts l.unit.resource) (cell l.unit h p)) l.hour)

@@ -9,7 +9,7 @@ use Rattle.credits.proofs.crediting.credit_resources.Goals as goal
 use Rattle.credits.proofs.crediting.credit_resources.Goals.{in-Some+in_ok-credit_resource, in_default}
 
 pub loop-k-init : goal.loop-k-init
-loop-k-init c = credited_none c.args.day.now.file.now c.args.amounts.now c.requires.0 c.requires.1
+loop-k-init c = credited_none c.args.day.now.file.now c.args.amounts.now.rows c.requires
 
 pub credit_resource-requires : goal.credit_resource-requires
 credit_resource-requires c =
@@ -18,7 +18,7 @@ credit_resource-requires c =
     let few = day_short c.args.day.now in
     record {
       resource = (told.few, omega (arith, block_told c.loop-k.k (drop c.loop-k.k (records f)) c.in-Some.unit told.value, c.loop-k-test.true, c.blocks-k-end.ensures));
-      rows = (c.loop-k.invariant.wide, λ i p. omega (arith, c.loop-k.invariant.below i p, c.loop-k-test.true, c.blocks-k-end.ensures));
+      below = λ i p. omega (arith, c.loop-k.invariant.below i p, c.loop-k-test.true, c.blocks-k-end.ensures);
     }
 
 pub loop-k-preserved : goal.loop-k-preserved
@@ -28,11 +28,11 @@ loop-k-preserved c =
     let l : k < blocks f = omega (arith, c.loop-k-test.true, c.blocks-k-end.ensures) in
     elim c.match-resource_at.branch [
       | in-Some+in_ok-credit_resource w ↦
-          subst (CreditedTo f (k + 1)) (sym w.amounts-is)
-          (credited_more f c.loop-k.amounts k w.in-Some.unit w.credit_resource.new.amounts l w.in-Some.ensures.value
+          subst (λ t. CreditedTo f (k + 1) t.rows) (sym w.amounts-is)
+          (credited_more f c.loop-k.amounts.rows k w.in-Some.unit w.credit_resource.new.amounts.rows l w.in-Some.ensures.value
           (refused_none _ (sym w.credit_resource.ensures.answer ∙ w.in_ok-credit_resource.was))
-          w.credit_resource.ensures.wide w.credit_resource.ensures.grown w.in_ok-credit_resource.ensures.credited c.loop-k.invariant)
-      | in_default w ↦ subst (CreditedTo f (k + 1)) (sym w.amounts-is) (credited_same f c.loop-k.amounts k l (sym w.in_default.is ∙ c.resource_at.ensures.value) c.loop-k.invariant)
+          w.credit_resource.ensures.grown w.in_ok-credit_resource.ensures.credited c.loop-k.invariant)
+      | in_default w ↦ subst (λ t. CreditedTo f (k + 1) t.rows) (sym w.amounts-is) (credited_same f c.loop-k.amounts.rows k l (sym w.in_default.is ∙ c.resource_at.ensures.value) c.loop-k.invariant)
     ]
 
 pub returns-in_err-credit_resource : goal.returns-in_err-credit_resource
@@ -42,11 +42,10 @@ returns-in_err-credit_resource c =
     let few = day_short c.args.day.now in
     let l : k < blocks f = omega (arith, c.loop-k-test.true, c.blocks-k-end.ensures) in
     let p = err_from_is_err_and c.from_residual.result c.from_residual.ensures.1 in
-    let stop = credited_stop f c.loop-k.amounts k c.in-Some.unit _ l c.in-Some.ensures.value
+    let stop = credited_stop f c.loop-k.amounts.rows k c.in-Some.unit _ l c.in-Some.ensures.value
     (refused_some _ _ (sym c.credit_resource.ensures.answer ∙ c.in_err-credit_resource.was)) c.loop-k.invariant in
     record {
       answer = p.1 ∙ ap Err p.2 ∙ sym (ap refused_by stop);
-      wide = c.credit_resource.ensures.wide;
       below = λ i p. omega (arith, c.credit_resource.ensures.grown (k * 4800000000000) c.loop-k.invariant.below i p);
       credited = MatchResult-from_err _ _ _ c.from_residual.ensures.0 (λ _. tt);
     }
@@ -55,10 +54,9 @@ pub returns : goal.returns
 returns c =
     let f = c.args.day.now.file.now in
     let n = c.blocks-k-end.ensures in
-    let done = credited_all f c.loop-k.amounts c.loop-k.k (omega (arith, c.loop-k-test.false)) c.loop-k.invariant in
+    let done = credited_all f c.loop-k.amounts.rows c.loop-k.k (omega (arith, c.loop-k-test.false)) c.loop-k.invariant in
     record {
       answer = sym (ap refused_by done.0);
-      wide = c.loop-k.invariant.wide;
       below = λ i p. omega (arith, c.loop-k.invariant.below i p, day_short c.args.day.now, c.loop-k.auto.k-end);
       credited = done.1;
     }

@@ -5,7 +5,6 @@ use Rattle.credits.proofs.owners.book.Given as goal
 
 abbrev pub invariant-loop-record : goal.invariant-loop-record
 invariant-loop-record g l =
-    Wide 48 l.amounts
-    × Below (1000000000000000000 + l.record-index * 100000000000) l.amounts
-    × ((i p : ℕ) → i < 48 → 1 ≤ p → p ≤ 21 → amount l.amounts i p
-    ≡ amount l.initial.amounts i p + cond (eqb p l.pool.number) (booked g.T.Placed.stands g.T.Weighted.holds i (take l.record-index l.records)) 0)
+    Below (1000000000000000000 + l.record-index * 100000000000) l.amounts.rows
+    × ((i p : ℕ) → i < 48 → 1 ≤ p → p ≤ 21 → amount l.amounts.rows i p
+    ≡ amount l.initial.amounts.rows i p + cond (eqb p l.pool.number) (booked g.T.Placed.stands g.T.Weighted.holds i (take l.record-index l.records)) 0)

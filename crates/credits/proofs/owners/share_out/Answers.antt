@@ -9,7 +9,7 @@ pub book-requires : goal.book-requires
 book-requires c =
     let d = c.divide.ensures.answer ∙ ap (λ b. cond b None (Some tt)) (parts_divide (λ o. o.parts) c.args.cents c.args.owners.now c.requires.owners.1.1) in
     record {
-      rows = (c.requires.rows, omega (arith, c.divide.auto.records, c.requires.owners));
+      few = omega (arith, c.divide.auto.records, c.requires.owners);
       small = (
         λ i p. omega (arith, c.requires.small.0 i p),
         held_within c.args.cents c.args.owners.now c.divide.new.records c.requires.owners.1.0 c.requires.owners.1.1
@@ -23,8 +23,8 @@ returns-then-cents-gt0 c =
     let pool = c.args.pool.number in
     let xs = c.args.owners.now in
     let ys = c.divide.new.records in
-    let before = c.args.amounts.now in
-    let after = c.book.new.amounts in
+    let before = c.args.amounts.now.rows in
+    let after = c.book.new.amounts.rows in
     let below = c.requires.owners.1.0 in
     let whole = c.requires.owners.1.1 in
     let d = c.divide.ensures.answer ∙ ap (λ b. cond b None (Some tt)) (parts_divide (λ o. o.parts) cents xs whole) in
@@ -33,11 +33,10 @@ returns-then-cents-gt0 c =
     let places = map (λ o. o.place) xs in
     let parts = map (λ o. o.parts) xs in
     let entry : (i p : ℕ) → i < 48 → 1 ≤ p → p ≤ 21 → amount after i p ≡ amount before i p + cond (eqb p pool) (owned_cents i places parts cents) 0 = λ i p l one most.
-    c.book.ensures.booked i p l one most ∙ ap (λ n. amount before i p + cond (eqb p pool) n 0) (booked_owned cents xs ys below whole only held i) in
+    c.book.ensures i p l one most ∙ ap (λ n. amount before i p + cond (eqb p pool) n 0) (booked_owned cents xs ys below whole only held i) in
     record {
-      wide = c.book.ensures.wide;
       grown = λ most b.
-          below_from (most + 100000000000) after c.book.ensures.wide
+          below_from (most + 100000000000) after c.book.new.amounts.wide
           (λ i p l one few.
           omega (arith, add_few (eqb p pool) true (amount before i p) (amount after i p) (owned_cents i places parts cents) most (entry i p l one few) (b i p), owned_within i places parts cents (omega arith), c.requires.small.1));
       booked = entry;
@@ -48,9 +47,8 @@ returns-then-cents-gt0 c =
 pub returns-else-cents-gt0 : goal.returns-else-cents-gt0
 returns-else-cents-gt0 c =
     record {
-      wide = c.requires.rows;
       grown = λ most b i p. omega (arith, b i p);
-      booked = λ i p _ _ _. add_none (eqb p c.args.pool.number) (amount c.args.amounts.now i p) _ (owned_nothing i _ _ c.args.cents (omega arith));
+      booked = λ i p _ _ _. add_none (eqb p c.args.pool.number) (amount c.args.amounts.now.rows i p) _ (owned_nothing i _ _ c.args.cents (omega arith));
       same_places = refl;
       same_parts = refl;
     }
