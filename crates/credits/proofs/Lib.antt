@@ -9,6 +9,7 @@ pub mod Allots
 pub mod Blocks
 pub mod Worths
 pub mod Totals
+pub mod Made
 pub mod Rows
 pub mod Columns
 pub mod Sharing

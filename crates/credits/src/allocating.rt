@@ -14,6 +14,7 @@ use crate::pool::Market;
 use crate::resource::ResourceDay;
 use crate::resources::find_resource;
 use dayfile::{AdmittedDay, Fault, Flag};
+use std::array;
 
 impl ResourceDay {
     /// The flag of an hour; without a real-time record a real-time hour is economic, and gets nothing.
@@ -64,11 +65,9 @@ fn grid_of(unit: &ResourceDay, cents: &HourlyCents) -> Grid
     requires { (Kept 48 unit.now) × (Allotted unit.now cents.now) }
     ensures { result ≡ grid_of unit.now }
 {
-    let mut hours = [PoolAmounts::none(); 24];
-    for hour in 0..24 {
-        hours[hour] = hour_row(unit, cents, hour);
+    Grid {
+        hours: array::from_fn(|hour| hour_row(unit, cents, hour)),
     }
-    Grid { hours }
 }
 
 /// The hourly allocation of a Resource: each hour's cents in each pool, before they are divided over owners. Refused, the

@@ -11,12 +11,14 @@ use crate::allocation::allocate;
 use crate::amounts::{POOLS, PoolAmounts};
 use crate::credits::{Credits, PLACES};
 use crate::hourly::HourlyCents;
-use crate::owners::{owners_of, share_out};
+use crate::owner::OwnerShare;
+use crate::owners::share_out;
 use crate::pool::Market;
 use crate::resource::ResourceDay;
 use crate::resources::resource_at;
 use crate::table::Table;
 use dayfile::{AdmittedDay, Fault, Record};
+use std::array;
 
 /// The most that a pool may cost in a day, in cents.
 const DEAREST_POOL: u64 = 10_000_000_000;
@@ -41,8 +43,9 @@ fn credit_hours(unit: &ResourceDay, cents: &HourlyCents, amounts: &mut Table)
     ensures grown { (most : ℕ) → Below most amounts.old.rows → Below (most + 4800000000000) amounts.new.rows }
     ensures credited { (i p : ℕ) → i < 48 → 1 ≤ p → p ≤ 21 → amount amounts.new.rows i p ≡ amount amounts.old.rows i p + resource_credit i p unit.now }
 {
-    let mut slots = owners_of(&unit.resource);
-    let owners = &mut slots[0..unit.resource.owner_count as usize];
+    // slots that are not in use own nothing
+    let mut slots = unit.resource.owners.map(OwnerShare::from);
+    let owners = &mut slots[..unit.resource.owner_count as usize];
     for hour in 0..24 {
         share_out(
             cents.day_ahead[hour],
@@ -107,11 +110,20 @@ fn check_costs(amounts: &Table) -> Result<(), Fault>
     Ok(())
 }
 
-/// The number of the participant at a place.
+/// How many participants a day has.
+fn participant_count(day: &AdmittedDay<'_>) -> usize
+    ensures { result ≡ length (participants_of day.now.file.now) }
+{
+    day.header().participants as usize
+}
+
+/// The number of the participant at a place, and 0 from the count on.
 fn number_at(day: &AdmittedDay<'_>, place: usize) -> u32
-    requires { place < length (participants_of day.now.file.now) }
     ensures { result ≡ slice_index (participants_of day.now.file.now) place }
 {
+    if place >= participant_count(day) {
+        return 0;
+    }
     match day.record(1 + place) {
         Some(Record::Participant(participant)) => participant.number,
         // the block behind those of the day and of the participants before it is a participant's
@@ -119,18 +131,11 @@ fn number_at(day: &AdmittedDay<'_>, place: usize) -> u32
     }
 }
 
-/// Notes the participants' numbers by place, and answers how many they are.
-fn name_participants(day: &AdmittedDay<'_>, participants: &mut [u32]) -> usize
-    requires { participants.old ≡ replicate 48 0 }
-    ensures count { result ≡ length (participants_of day.now.file.now) }
-    ensures few { result ≤ 48 }
-    ensures numbers { participants.new ≡ map (λ i. slice_index (participants_of day.now.file.now) i) (range_with_len 0 48) }
+/// The participants' numbers by place.
+fn numbers(day: &AdmittedDay<'_>) -> [u32; PLACES]
+    ensures { result ≡ map (λ i. slice_index (participants_of day.now.file.now) i) (range_with_len 0 48) }
 {
-    let count = day.header().participants as usize;
-    for place in 0..count {
-        participants[place] = number_at(day, place);
-    }
-    count
+    array::from_fn(|place| number_at(day, place))
 }
 
 /// Puts a day's credits into the caller's place: the participants, and what each is credited in each pool. Refused, the place
@@ -144,11 +149,9 @@ pub fn credit(day: &AdmittedDay<'_>, credits: &mut Credits) -> Result<(), Fault>
     let mut amounts = Table::none();
     credit_resources(day, &mut amounts)?;
     check_costs(&amounts)?;
-    let mut participants = [0; PLACES];
-    let count = name_participants(day, &mut participants);
     *credits = Credits {
-        count,
-        participants,
+        count: participant_count(day),
+        participants: numbers(day),
         amounts: amounts.rows,
     };
     Ok(())

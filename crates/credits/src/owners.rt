@@ -3,13 +3,12 @@ ghost use Rattle.std.specs.Prelude.{◌≡◌, ℕ, ◌+◌, ◌<◌, ◌≤◌,
 ghost use Rattle.std.specs.List.{AllByRecursion};
 ghost use Rattle.credits.specs.Weighing.{cut, cut_light, placed_at, placed_below};
 ghost use Rattle.credits.specs.Grids.{amount, Below};
-ghost use Rattle.credits.specs.Owning.{owned_cents, of_owner, booked};
+ghost use Rattle.credits.specs.Owning.{owned_cents, booked};
 
 use crate::amounts::Pool;
 use crate::hours::HEAVIEST;
 use crate::owner::OwnerShare;
 use crate::table::Table;
-use dayfile::ResourceRecord;
 use division::{Placed, Weighted, divide};
 
 /// The last place of a participant.
@@ -54,27 +53,6 @@ impl Sharing for OwnerShare {
     fn share(&self) -> u64 {
         self.cents
     }
-}
-
-/// The owners of a Resource, who hold nothing yet; slots that are not in use own nothing.
-pub(crate) fn owners_of(resource: &ResourceRecord) -> [OwnerShare; 8]
-    requires { length resource.now.owners ≡ 8 }
-    ensures { result ≡ map of_owner resource.now.owners }
-{
-    let mut owners = [OwnerShare {
-        place: 0,
-        parts: 0,
-        cents: 0,
-    }; 8];
-    for i in 0..8 {
-        let owner = resource.owners[i];
-        owners[i] = OwnerShare {
-            place: owner.place,
-            parts: owner.parts,
-            cents: 0,
-        };
-    }
-    owners
 }
 
 /// Books each record's share to its participant's place, in a pool.

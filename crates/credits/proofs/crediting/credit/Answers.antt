@@ -43,11 +43,10 @@ returns c =
     let w = day_formed c.args.day.now in
     let rows = c.credit_resources.new.amounts.rows in
     let done = c.in_ok-credit_resources.ensures in
-    let named = c.name_participants-count.ensures in
     let none = refused_none _ (sym c.credit_resources.ensures.answer ∙ c.in_ok-credit_resources.was) in
     let fits = sym (columns_cost f rows c.credit_resources.new.amounts.wide done.credited (resources_kept_few f w)) ∙ refused_none _ (sym c.check_costs.ensures ∙ c.in_ok-check_costs.was) in
     record {
-      outcome = day_credited f c.args.credits.now _ (by_cost f None none fits) (credits_same f rows c.credit_resources.new.amounts.wide done.credited _ _ named.count named.numbers);
+      outcome = day_credited f c.args.credits.now _ (by_cost f None none fits) (credits_same f rows c.credit_resources.new.amounts.wide done.credited _ _ c.participant_count.ensures c.numbers.ensures);
       adds_up = credits_add_up f w;
       lawful = day_lawful f w;
       costs_within = none_dear (pool_cost f) 21 fits;

@@ -1,10 +1,12 @@
-use Rattle.std.proofs.Common.{◌≡◌, ◌+◌, ◌-◌, map, get_or, take, refl, ap, ◌∙◌, arith}
+use Rattle.std.proofs.Common.{◌≡◌, ◌+◌, map, get_or, take, refl, ap, ◌∙◌, arith, rules}
 use Rattle.credits.specs.declared.pool.Market.TheVariants.{DayAhead, RealTime}
 use Rattle.credits.specs.Sums.{total}
 use Rattle.credits.specs.Grids.{cell, amount}
-use Rattle.credits.specs.Owning.{owner_places, owner_parts, owned_cents}
+use Rattle.credits.specs.Owning.{owner_places, owner_parts, owned_cents, of_owner}
 use Rattle.credits.specs.Crediting.{resource_credit}
 use Rattle.credits.proofs.Cells.{get_or_small}
+use Rattle.credits.proofs.Made.{mapped}
+use Rattle.credits.proofs.Sharing.{no_owner, no_share}
 use Rattle.credits.proofs.Totals.{total_more}
 use Rattle.credits.proofs.HourCredits.{cell_owned, market_entry, first_owners, owners_fit}
 use Rattle.credits.proofs.crediting.credit_hours.Goals as goal
@@ -13,11 +15,9 @@ pub loop-hour-init : goal.loop-hour-init
 unfolding total
 loop-hour-init c =
     let g = c.args.unit.now.resource in
-    let n : g.owner_count - 0 ≡ g.owner_count = omega arith in (
-      ap (λ os. map (λ o. o.place) (take (g.owner_count - 0) os)) c.owners_of-slots.ensures
-          ∙ first_owners (λ o. o.place) (λ o. o.place) (λ o. refl) (g.owner_count - 0) g.owners ∙ ap (λ k. map (λ o. o.place) (take k g.owners)) n,
-      ap (λ os. map (λ o. o.parts) (take (g.owner_count - 0) os)) c.owners_of-slots.ensures
-          ∙ first_owners (λ o. o.parts) (λ o. o.parts) (λ o. refl) (g.owner_count - 0) g.owners ∙ ap (λ k. map (λ o. o.parts) (take k g.owners)) n,
+    let slots = mapped _ of_owner _ (λ x y q k. search rules) no_owner no_share g.owners c.map-slots.result 8 c.requires.resource.0.resource.slots c.map-slots.ensures.items in (
+      ap (λ os. map (λ o. o.place) (take g.owner_count os)) slots ∙ first_owners (λ o. o.place) (λ o. o.place) (λ o. refl) g.owner_count g.owners,
+      ap (λ os. map (λ o. o.parts) (take g.owner_count os)) slots ∙ first_owners (λ o. o.parts) (λ o. o.parts) (λ o. refl) g.owner_count g.owners,
       λ most b i p. omega (arith, b i p),
       λ i p _ _ _. omega arith,
     )

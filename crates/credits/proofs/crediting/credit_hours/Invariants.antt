@@ -1,6 +1,6 @@
 use Rattle.std.proofs.Common.{◌≡◌, ℕ, ◌+◌, ◌*◌, ◌<◌, ◌≤◌, map}
 use Rattle.credits.specs.Sums.{total}
-use Rattle.credits.specs.Grids.{cell, amount, Wide, Below}
+use Rattle.credits.specs.Grids.{cell, amount, Below}
 use Rattle.credits.specs.Owning.{owner_places, owner_parts, owned_cents}
 use Rattle.credits.proofs.crediting.credit_hours.Given as goal
 

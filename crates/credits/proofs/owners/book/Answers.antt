@@ -1,4 +1,4 @@
-use Rattle.std.proofs.Common.{◌+◌, ◌<◌, cond, eqb, take, ap, ◌∙◌, arith}
+use Rattle.std.proofs.Common.{◌+◌, cond, eqb, take, ap, ◌∙◌, arith}
 use Rattle.std.proofs.lemmas.List.{take_all}
 use Rattle.std.proofs.lemmas.Bool.Decides.{nat_tests}
 use Rattle.credits.specs.Grids.{amount}

@@ -1,5 +1,5 @@
 use Rattle.std.proofs.Common.{◌≡◌, ℕ, ◌+◌, ◌*◌, ◌<◌, ◌≤◌, cond, eqb, take}
-use Rattle.credits.specs.Grids.{amount, Wide, Below}
+use Rattle.credits.specs.Grids.{amount, Below}
 use Rattle.credits.specs.Owning.{booked}
 use Rattle.credits.proofs.owners.book.Given as goal
 
