@@ -1,24 +1,24 @@
 -- Numbers written digit by digit, and one after the other.
-use Rattle.std.proofs.Common.{◌≡◌, ℕ, suc, ◌+◌, ◌-◌, ◌/◌, ◌%◌, ◌^◌, ◌<◌, ◌≤◌, List, ◌++◌, length, get_or, drop, set, ℤ, sym, ap, ◌∙◌, add-zero, arith, w32, to_z, of_z}
+use Rattle.std.proofs.Common.{◌≡◌, ℕ, ◌+◌, ◌/◌, ◌%◌, ◌^◌, ◌<◌, ◌≤◌, List, [], ◌∷◌, ◌++◌, length, get_or, drop, ℤ, refl, sym, ap, ◌∙◌, add-zero, arith, w32, to_z, of_z}
 use Rattle.std.proofs.lemmas.Int.{of_z-to_z}
+use Rattle.std.specs.Int.{w16, to_le_bytes}
 use Rattle.dayfile.specs.Bytes.{digits, laid, value}
 use Rattle.dayfile.specs.Records.{hour_from}
-use Rattle.dayfile.proofs.Laid.{laid_nil, laid_cons, laid_append, length_laid}
+use Rattle.dayfile.proofs.Laid.{laid_append, length_laid}
 use Rattle.dayfile.proofs.Numbers.{value_one, value_drop, length_digits}
 
-pub digits_more : (xs : List ℕ) (i k w v : ℕ) → k < w → i + k < length xs
-    → laid xs (i + k) (digits (w - k) v) ≡ laid (set xs (i + k) (v % 256)) (i + (k + 1)) (digits (w - (k + 1)) (v / 256))
+-- a number's bytes, as the library says them
+pub bytes_two : (n : ℕ) → to_le_bytes w16 n ≡ digits 2 n
 unfolding digits
-digits_more xs i k w v l h =
-    let e : w - k ≡ suc (w - (k + 1)) = omega arith in
-    let f : i + k + 1 ≡ i + (k + 1) = omega arith in
-    ap (λ m. laid xs (i + k) (digits m v)) e
-    ∙ laid_cons xs (i + k) (v % 256) (digits (w - (k + 1)) (v / 256)) h
-    ∙ ap (λ p. laid (set xs (i + k) (v % 256)) p (digits (w - (k + 1)) (v / 256))) f
+bytes_two n = refl
 
-pub digits_end : (xs : List ℕ) (i m v : ℕ) → m ≡ 0 → laid xs i (digits m v) ≡ xs
+pub bytes_four : (n : ℕ) → to_le_bytes w32 n ≡ digits 4 n
 unfolding digits
-digits_end xs i m v e = ap (λ k. laid xs i (digits k v)) e ∙ laid_nil xs i
+bytes_four n =
+    let c : n / 65536 % 256 ≡ n / 256 / 256 % 256 = omega arith in
+    let d : n / 16777216 % 256 ≡ n / 256 / 256 / 256 % 256 = omega arith in
+    ap (λ k. n % 256 ∷ n / 256 % 256 ∷ k ∷ n / 16777216 % 256 ∷ []) c
+    ∙ ap (λ k. n % 256 ∷ n / 256 % 256 ∷ n / 256 / 256 % 256 ∷ k ∷ []) d
 
 -- one part written right after another, and a third one
 pub laid_two : (xs : List ℕ) (i j : ℕ) (ys zs : List ℕ) → i + length ys ≤ length xs → j ≡ i + length ys → laid (laid xs i ys) j zs ≡ laid xs i (ys ++ zs)

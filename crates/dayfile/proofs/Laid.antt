@@ -1,8 +1,9 @@
 -- Writing over a part of a list.
-use Rattle.std.proofs.Common.{◌≡◌, ℕ, suc, ◌+◌, ◌-◌, ◌<◌, ◌≤◌, List, [], ◌∷◌, ◌++◌, length, get_or, take, drop, set, sym, refl, ap, ◌∙◌, add-zero, arith}
+use Rattle.std.proofs.Common.{◌≡◌, ℕ, suc, ◌+◌, ◌-◌, ◌*◌, ◌<◌, ◌≤◌, List, [], ◌∷◌, ◌++◌, length, get_or, take, drop, set, sym, refl, ap, ◌∙◌, add-zero, arith}
 use Rattle.std.specs.List.{flat_map}
 use Rattle.std.proofs.lemmas.List.{take-append-drop, take_more_set, drop-set-lt, append_assoc, length-set, take_at, drop_at, drop-drop, drop-replicate, drop_more, drop_all}
 use Rattle.dayfile.specs.Bytes.{laid, zeros}
+use Rattle.dayfile.proofs.Each.{add_one_mul}
 
 pub laid_nil : (xs : List ℕ) (i : ℕ) → laid xs i [] ≡ xs
 laid_nil xs i = ap (λ k. take i xs ++ drop k xs) (add-zero i) ∙ take-append-drop i xs
@@ -48,6 +49,19 @@ laid_more write w long xs p vs j d l h =
     ap (λ t. laid xs p (flat_map write t)) (drop_more vs j d l)
     ∙ laid_append xs p (write v) rest (omega (arith, n))
     ∙ ap (λ k. laid (laid xs p (write v)) (p + k) rest) n
+
+-- the next one is written into its place
+pub laid_next : {A : Type 0} (write : A → List ℕ) (w : ℕ) → ((x : A) → length (write x) ≡ w) → (xs ys : List ℕ) (at : ℕ) (vs : List A) (j : ℕ) (v : A)
+    → j < length vs → at + j * w + w ≤ length xs → v ≡ get_or vs j v → ys ≡ laid xs (at + j * w) (write v)
+    → laid ys (at + (j + 1) * w) (flat_map write (drop (j + 1) vs)) ≡ laid xs (at + j * w) (flat_map write (drop j vs))
+laid_next write w long xs ys at vs j v l h e f =
+    let p = at + j * w in
+    let rest = flat_map write (drop (j + 1) vs) in
+    let q : at + (j + 1) * w ≡ at + j * w + w = omega (arith, add_one_mul j w) in
+    ap (λ k. laid ys k rest) q
+    ∙ ap (λ t. laid t (p + w) rest) f
+    ∙ ap (λ y. laid (laid xs p (write y)) (p + w) rest) e
+    ∙ sym (laid_more write w long xs p vs j v l h)
 
 pub laid_all : {A : Type 0} (write : A → List ℕ) (xs : List ℕ) (p : ℕ) (vs : List A) (j : ℕ) → length vs ≤ j → laid xs p (flat_map write (drop j vs)) ≡ xs
 laid_all write xs p vs j l = ap (λ t. laid xs p (flat_map write t)) (drop_all j vs l) ∙ laid_nil xs p

@@ -49,7 +49,19 @@ event_named n =
 abbrev pub EventNumbered : ℕ → Result Event UnknownNumber → Type 0
 EventNumbered n r = MatchResult r (λ v. event_number v ≡ n) (λ e. (e.0 ≡ n) × (5 < n))
 
--- what stands several times in a row: its bytes, and how it is read at the front of bytes
+-- what a block holds: its bytes, and how it is read at the front of bytes
+abbrev pub byte_bytes : ℕ → List ℕ
+byte_bytes n = digits 1 n
+
+abbrev pub byte_from : List ℕ → ℕ
+byte_from bs = value 0 1 bs
+
+abbrev pub half_bytes : ℕ → List ℕ
+half_bytes n = digits 2 n
+
+abbrev pub half_from : List ℕ → ℕ
+half_from bs = value 0 2 bs
+
 abbrev pub word_bytes : ℕ → List ℕ
 word_bytes n = digits 4 n
 

@@ -1,4 +1,4 @@
--- How many bytes each repeated part takes.
+-- How many bytes each part takes.
 use Rattle.std.specs.Prelude.{◌≡◌, ℕ, ◌<◌, length, ℤ, refl}
 use Rattle.std.proofs.Common.{lit<}
 use Rattle.dayfile.specs.declared.record.Load.{Load}
@@ -7,7 +7,15 @@ use Rattle.dayfile.specs.declared.record.RealTimeHour.{RealTimeHour}
 use Rattle.dayfile.specs.declared.record.Flag.{Flag}
 use Rattle.dayfile.specs.declared.record.Event.{Event}
 use Rattle.dayfile.specs.Bytes.{digits}
-use Rattle.dayfile.specs.Records.{word_bytes, signed_bytes, flag_bytes, event_bytes, load_bytes, owner_bytes, hour_bytes}
+use Rattle.dayfile.specs.Records.{byte_bytes, half_bytes, word_bytes, signed_bytes, flag_bytes, event_bytes, load_bytes, owner_bytes, hour_bytes}
+
+pub byte_long : (n : ℕ) → length (byte_bytes n) ≡ 1
+unfolding digits
+byte_long n = refl
+
+pub half_long : (n : ℕ) → length (half_bytes n) ≡ 2
+unfolding digits
+half_long n = refl
 
 pub word_long : (n : ℕ) → length (word_bytes n) ≡ 4
 unfolding digits
@@ -39,6 +47,9 @@ hour_long h = refl
 
 pub one : 1 < 256
 one = lit< tt
+
+pub two : 2 < 256
+two = lit< tt
 
 pub four : 4 < 256
 four = lit< tt

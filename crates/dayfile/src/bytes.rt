@@ -45,22 +45,22 @@ pub(crate) fn word_inside(bytes: &[u8], at: usize) -> u32
     u32::from_le_bytes([bytes[at], bytes[at + 1], bytes[at + 2], bytes[at + 3]])
 }
 
-/// What stands several times in a row in a block: an hour's price, a region's loads, an owner.
+/// What a block holds at a place: a number, or what stands several times in a row, as a region's loads or an owner.
 pub(crate) trait Part {
-    ghost width: { ℕ };
+    /// How many bytes the part takes.
+    const WIDTH: usize;
+
+    ghost WIDTH: { ℕ };
 
     ghost bytes: { Self → List ℕ };
 
     ghost from: { List ℕ → Self };
 
-    ghost long: { ((x : Self) → length (bytes x) ≡ width) };
+    ghost long: { ((x : Self) → length (bytes x) ≡ WIDTH) };
 
-    ghost few: { width < 256 };
+    ghost few: { WIDTH < 256 };
 
     ghost fits: { Self → Type 0 };
-
-    fn width() -> usize
-        ensures { result ≡ width };
 
     /// The part at a place.
     fn read(block: &[u8], at: usize) -> Self
@@ -69,7 +69,7 @@ pub(crate) trait Part {
 
     /// Writes the part at a place.
     fn write(&self, block: &mut [u8], at: usize)
-        requires { at + width ≤ length block.old }
+        requires { at + WIDTH ≤ length block.old }
         ensures written { block.new ≡ laid block.old at (bytes self.now) }
         ensures sound { fits self.now };
 }
@@ -77,24 +77,30 @@ pub(crate) trait Part {
 /// The first `N` parts of bytes, one after the other.
 pub(crate) fn read_parts<T: Part + Copy + Default, const N: usize>(bytes: &[u8]) -> [T; N]
     requires { N < 2 ^ 16 }
-    ensures { result ≡ each T.Part.from T.Part.width N bytes.now }
+    ensures { result ≡ each T.Part.from T.Part.WIDTH N bytes.now }
 {
     let mut parts = [T::default(); N];
     for (i, part) in parts.iter_mut().enumerate() {
-        *part = T::read(bytes, i * T::width());
+        *part = T::read(bytes, i * T::WIDTH);
     }
     parts
 }
 
 /// Writes parts one after the other.
 pub(crate) fn write_parts<T: Part>(parts: &[T], block: &mut [u8], at: usize)
-    requires { at + length parts.now * T.Part.width ≤ length block.old }
+    requires { at + length parts.now * T.Part.WIDTH ≤ length block.old }
     ensures written { block.new ≡ laid block.old at (flat_map T.Part.bytes parts.now) }
     ensures sound { AllByRecursion T.Part.fits parts.now }
 {
-    let mut p = at;
-    for part in parts {
-        part.write(block, p);
-        p += T::width();
+    for (i, part) in parts.iter().enumerate() {
+        part.write(block, at + i * T::WIDTH);
     }
+}
+
+/// Writes bytes over those at a place.
+pub(crate) fn write_bytes(bytes: &[u8], block: &mut [u8], at: usize)
+    requires { at + length bytes.now ≤ length block.old }
+    ensures { block.new ≡ laid block.old at bytes.now }
+{
+    block[at..at + bytes.len()].copy_from_slice(bytes);
 }

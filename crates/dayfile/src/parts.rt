@@ -3,49 +3,12 @@ ghost use Rattle.std.specs.Prelude.{◌≡◌, ◌+◌, ◌^◌, ◌<◌, ◌≤
 ghost use Rattle.std.specs.Int.{w32};
 ghost use Rattle.std.proofs.Common.{of_z};
 ghost use Rattle.dayfile.specs.Bytes.{digits, laid};
-ghost use Rattle.dayfile.specs.Records.{word_bytes, word_from, signed_bytes, signed_from, flag_number, flag_named, FlagNumbered, flag_bytes, flag_from, event_number, event_named, EventNumbered, event_bytes, event_from, load_bytes, load_from, owner_bytes, owner_from, hour_bytes, hour_from};
-ghost use Rattle.dayfile.specs.Widths.{word_long, signed_long, flag_long, event_long, load_long, owner_long, hour_long, four, one, twelve, six};
+ghost use Rattle.dayfile.specs.Records.{byte_bytes, byte_from, half_bytes, half_from, word_bytes, word_from, signed_bytes, signed_from, flag_number, flag_named, FlagNumbered, flag_bytes, flag_from, event_number, event_named, EventNumbered, event_bytes, event_from, load_bytes, load_from, owner_bytes, owner_from, hour_bytes, hour_from};
+ghost use Rattle.dayfile.specs.Widths.{byte_long, half_long, word_long, signed_long, flag_long, event_long, load_long, owner_long, hour_long, one, two, four, six, twelve};
 ghost use Rattle.dayfile.specs.Writing.{LoadFits, OwnerFits, HourFits};
 
-use crate::bytes::{Part, byte_at, half_at, word_at};
+use crate::bytes::{Part, byte_at, half_at, word_at, write_bytes};
 use crate::record::{Event, Flag, Load, Owner, RealTimeHour, UnknownNumber};
-
-/// Writes a number into `width` bytes, the lowest byte first.
-pub(crate) fn write_number(block: &mut [u8], at: usize, width: usize, number: u32)
-    requires { at + width ≤ length block.old }
-    ensures written { block.new ≡ laid block.old at (digits width number) }
-    ensures sound { number < 2 ^ 32 }
-{
-    let mut rest = number;
-    for k in 0..width {
-        block[at + k] = (rest % 256) as u8;
-        rest /= 256;
-    }
-}
-
-/// A byte as a number. Its contract tells that it fits a byte, which a caller does not know of a field behind a reference.
-pub(crate) fn octet(n: u8) -> u32
-    ensures same { result ≡ n }
-    ensures sound { n < 256 }
-{
-    n as u32
-}
-
-/// A number of two bytes, likewise.
-pub(crate) fn half(n: u16) -> u32
-    ensures same { result ≡ n }
-    ensures sound { n < 2 ^ 16 }
-{
-    n as u32
-}
-
-/// The bits of a signed number in two's complement, likewise.
-fn bits(n: i32) -> u32
-    ensures same { result ≡ of_z w32 n }
-    ensures sound { FitsSigned w32 n }
-{
-    n.cast_unsigned()
-}
 
 impl Flag {
     /// The flag's number in a file.
@@ -127,8 +90,61 @@ impl TryFrom<u8> for Event {
     }
 }
 
+impl Part for u8 {
+    const WIDTH: usize = 1;
+
+    ghost WIDTH = { 1 };
+
+    ghost bytes = { byte_bytes };
+
+    ghost from = { byte_from };
+
+    ghost long = { byte_long };
+
+    ghost few = { one };
+
+    ghost fits = { λ n. n < 256 };
+
+    #[tactic(auto, using(crate::proofs::Digits::front_byte))]
+    fn read(block: &[u8], at: usize) -> u8 {
+        byte_at(block, at)
+    }
+
+    #[tactic(auto, using(crate::proofs::Numbers::digits_one))]
+    fn write(&self, block: &mut [u8], at: usize) {
+        write_bytes(&self.to_le_bytes(), block, at);
+    }
+}
+
+impl Part for u16 {
+    const WIDTH: usize = 2;
+
+    ghost WIDTH = { 2 };
+
+    ghost bytes = { half_bytes };
+
+    ghost from = { half_from };
+
+    ghost long = { half_long };
+
+    ghost few = { two };
+
+    ghost fits = { λ n. n < 2 ^ 16 };
+
+    fn read(block: &[u8], at: usize) -> u16 {
+        half_at(block, at)
+    }
+
+    #[tactic(auto, using(crate::proofs::Digits::bytes_two))]
+    fn write(&self, block: &mut [u8], at: usize) {
+        write_bytes(&self.to_le_bytes(), block, at);
+    }
+}
+
 impl Part for u32 {
-    ghost width = { 4 };
+    const WIDTH: usize = 4;
+
+    ghost WIDTH = { 4 };
 
     ghost bytes = { word_bytes };
 
@@ -140,21 +156,20 @@ impl Part for u32 {
 
     ghost fits = { λ n. n < 2 ^ 32 };
 
-    fn width() -> usize {
-        4
-    }
-
     fn read(block: &[u8], at: usize) -> u32 {
         word_at(block, at)
     }
 
+    #[tactic(auto, using(crate::proofs::Digits::bytes_four))]
     fn write(&self, block: &mut [u8], at: usize) {
-        write_number(block, at, 4, *self);
+        write_bytes(&self.to_le_bytes(), block, at);
     }
 }
 
 impl Part for i32 {
-    ghost width = { 4 };
+    const WIDTH: usize = 4;
+
+    ghost WIDTH = { 4 };
 
     ghost bytes = { signed_bytes };
 
@@ -166,21 +181,20 @@ impl Part for i32 {
 
     ghost fits = { FitsSigned w32 };
 
-    fn width() -> usize {
-        4
-    }
-
     fn read(block: &[u8], at: usize) -> i32 {
         word_at(block, at).cast_signed()
     }
 
+    #[tactic(auto, using(crate::proofs::Digits::bytes_four))]
     fn write(&self, block: &mut [u8], at: usize) {
-        write_number(block, at, 4, bits(*self));
+        write_bytes(&self.to_le_bytes(), block, at);
     }
 }
 
 impl Part for Flag {
-    ghost width = { 1 };
+    const WIDTH: usize = 1;
+
+    ghost WIDTH = { 1 };
 
     ghost bytes = { flag_bytes };
 
@@ -192,21 +206,20 @@ impl Part for Flag {
 
     ghost fits = { λ _. Unit {0} };
 
-    fn width() -> usize {
-        1
-    }
-
+    #[tactic(auto, using(crate::proofs::Digits::front_byte))]
     fn read(block: &[u8], at: usize) -> Flag {
         Flag::named(byte_at(block, at))
     }
 
     fn write(&self, block: &mut [u8], at: usize) {
-        write_number(block, at, 1, self.number() as u32);
+        self.number().write(block, at);
     }
 }
 
 impl Part for Event {
-    ghost width = { 1 };
+    const WIDTH: usize = 1;
+
+    ghost WIDTH = { 1 };
 
     ghost bytes = { event_bytes };
 
@@ -218,21 +231,20 @@ impl Part for Event {
 
     ghost fits = { λ _. Unit {0} };
 
-    fn width() -> usize {
-        1
-    }
-
+    #[tactic(auto, using(crate::proofs::Digits::front_byte))]
     fn read(block: &[u8], at: usize) -> Event {
         Event::named(byte_at(block, at))
     }
 
     fn write(&self, block: &mut [u8], at: usize) {
-        write_number(block, at, 1, self.number() as u32);
+        self.number().write(block, at);
     }
 }
 
 impl Part for Load {
-    ghost width = { 12 };
+    const WIDTH: usize = 12;
+
+    ghost WIDTH = { 12 };
 
     ghost bytes = { load_bytes };
 
@@ -244,10 +256,6 @@ impl Part for Load {
 
     ghost fits = { LoadFits };
 
-    fn width() -> usize {
-        12
-    }
-
     fn read(block: &[u8], at: usize) -> Load {
         Load {
             day_ahead: word_at(block, at),
@@ -256,15 +264,18 @@ impl Part for Load {
         }
     }
 
+    #[tactic(auto, using(crate::proofs::Digits::three_words))]
     fn write(&self, block: &mut [u8], at: usize) {
-        write_number(block, at, 4, self.day_ahead);
-        write_number(block, at + 4, 4, self.real_time);
-        write_number(block, at + 8, 4, self.deviation);
+        self.day_ahead.write(block, at);
+        self.real_time.write(block, at + 4);
+        self.deviation.write(block, at + 8);
     }
 }
 
 impl Part for Owner {
-    ghost width = { 6 };
+    const WIDTH: usize = 6;
+
+    ghost WIDTH = { 6 };
 
     ghost bytes = { owner_bytes };
 
@@ -276,10 +287,6 @@ impl Part for Owner {
 
     ghost fits = { OwnerFits };
 
-    fn width() -> usize {
-        6
-    }
-
     fn read(block: &[u8], at: usize) -> Owner {
         Owner {
             place: half_at(block, at),
@@ -287,14 +294,17 @@ impl Part for Owner {
         }
     }
 
+    #[tactic(auto, using(crate::proofs::Digits::half_and_word))]
     fn write(&self, block: &mut [u8], at: usize) {
-        write_number(block, at, 2, half(self.place));
-        write_number(block, at + 2, 4, self.parts);
+        self.place.write(block, at);
+        self.parts.write(block, at + 2);
     }
 }
 
 impl Part for RealTimeHour {
-    ghost width = { 12 };
+    const WIDTH: usize = 12;
+
+    ghost WIDTH = { 12 };
 
     ghost bytes = { hour_bytes };
 
@@ -306,10 +316,6 @@ impl Part for RealTimeHour {
 
     ghost fits = { HourFits };
 
-    fn width() -> usize {
-        12
-    }
-
     fn read(block: &[u8], at: usize) -> RealTimeHour {
         RealTimeHour {
             dispatch_kwh: word_at(block, at),
@@ -318,9 +324,10 @@ impl Part for RealTimeHour {
         }
     }
 
+    #[tactic(auto, using(crate::proofs::Digits::three_words))]
     fn write(&self, block: &mut [u8], at: usize) {
-        write_number(block, at, 4, self.dispatch_kwh);
-        write_number(block, at + 4, 4, self.metered_kwh);
-        write_number(block, at + 8, 4, bits(self.lmp));
+        self.dispatch_kwh.write(block, at);
+        self.metered_kwh.write(block, at + 4);
+        self.lmp.write(block, at + 8);
     }
 }

@@ -6,12 +6,11 @@ ghost use Rattle.dayfile.specs.Records.{record_of, encode, body, day_body, parti
 ghost use Rattle.dayfile.specs.Writing.{Fitting, unwritten, Writes, WrittenOnly};
 ghost use Rattle.dayfile.specs.Files.{answer, lone_fault};
 
-use crate::bytes::write_parts;
+use crate::bytes::{Part, write_parts};
 use crate::fault::Fault;
 use crate::file::BLOCK;
 use crate::layout::{check_of, field_fault, table_for};
 use crate::owners::{PLACES, kept};
-use crate::parts::{half, octet, write_number};
 use crate::record::{DayRecord, ParticipantRecord, RealTimeRecord, Record, ResourceRecord};
 
 /// Writes a record as a block of 512 bytes at the front of a buffer, or says why not and leaves the buffer as it was.
@@ -54,7 +53,7 @@ fn refuse(rec: &Record, block: &[u8; BLOCK], room: usize) -> Result<(), Fault>
         return Err(Fault::RecordField { byte });
     }
     if let Record::Resource(g) = rec {
-        if !kept(&g.owners, g.owner_count as usize, PLACES) {
+        if !kept(&g.owners, usize::from(g.owner_count), PLACES) {
             return Err(Fault::RecordOwners);
         }
     }
@@ -66,7 +65,7 @@ fn seal(block: &mut [u8; BLOCK])
     ensures { block.new ≡ sealed (take 508 block.old) }
 {
     let check = check_of(block);
-    write_number(block, 508, 4, check);
+    check.write(block, 508);
 }
 
 /// Copies a block to the front of a buffer.
@@ -85,10 +84,10 @@ impl DayRecord {
         ensures fits { Fitting (Day self.now) }
     {
         block[0] = b'D';
-        write_number(block, 4, 4, self.date);
-        write_number(block, 8, 2, half(self.version));
-        write_number(block, 10, 1, octet(self.participants));
-        write_number(block, 11, 1, octet(self.resources));
+        self.date.write(block, 4);
+        self.version.write(block, 8);
+        self.participants.write(block, 10);
+        self.resources.write(block, 11);
     }
 }
 
@@ -100,10 +99,10 @@ impl ParticipantRecord {
         ensures fits { Fitting (Participant self.now) }
     {
         block[0] = b'P';
-        write_number(block, 4, 4, self.number);
+        self.number.write(block, 4);
         write_parts(&self.loads, block, 8);
-        write_number(block, 104, 4, self.network_load);
-        write_number(block, 108, 4, self.scr_weight);
+        self.network_load.write(block, 104);
+        self.scr_weight.write(block, 108);
     }
 }
 
@@ -115,16 +114,16 @@ impl ResourceRecord {
         ensures fits { Fitting (Resource self.now) }
     {
         block[0] = b'G';
-        write_number(block, 1, 1, octet(self.region));
-        write_number(block, 2, 1, octet(self.minimum_run_hours));
-        write_number(block, 3, 1, octet(self.minimum_down_hours));
-        write_number(block, 4, 4, self.number);
-        write_number(block, 8, 4, self.start_up_cents);
-        write_number(block, 12, 4, self.no_load_cents);
+        self.region.write(block, 1);
+        self.minimum_run_hours.write(block, 2);
+        self.minimum_down_hours.write(block, 3);
+        self.number.write(block, 4);
+        self.start_up_cents.write(block, 8);
+        self.no_load_cents.write(block, 12);
         write_parts(&self.prices, block, 16);
-        write_number(block, 112, 1, octet(self.hours_on_line));
-        write_number(block, 113, 1, octet(self.owner_count));
-        write_number(block, 116, 4, self.self_scheduled);
+        self.hours_on_line.write(block, 112);
+        self.owner_count.write(block, 113);
+        self.self_scheduled.write(block, 116);
         write_parts(&self.owners, block, 120);
         write_parts(&self.cleared_kwh, block, 168);
         write_parts(&self.lmps, block, 264);
@@ -140,8 +139,8 @@ impl RealTimeRecord {
         ensures fits { Fitting (RealTime self.now) }
     {
         block[0] = b'R';
-        write_number(block, 4, 4, self.number);
-        write_number(block, 8, 4, self.economic_minimum_kwh);
+        self.number.write(block, 4);
+        self.economic_minimum_kwh.write(block, 8);
         write_parts(&self.hours, block, 12);
         write_parts(&self.events, block, 300);
         write_parts(&self.flags, block, 324);

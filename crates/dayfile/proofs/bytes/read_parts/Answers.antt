@@ -12,8 +12,8 @@ pub loop-i-preserved : goal.loop-i-preserved
 loop-i-preserved g c =
     record {
       front =
-          each_set g.T.Part.from g.T.Part.width c.args.bytes.now c.loop-i.i c.loop-i.part-items c.read.result (omega arith)
-          (c.read.ensures ∙ ap (λ w. g.T.Part.from (drop (c.loop-i.i * w) c.args.bytes.now)) c.width.ensures) c.loop-i.invariant.front;
+          each_set g.T.Part.from g.T.Part.WIDTH c.args.bytes.now c.loop-i.i c.loop-i.part-items c.read.result (omega arith)
+          (cc) c.loop-i.invariant.front;
       long = search rules;
     }
 
@@ -21,4 +21,4 @@ pub returns : goal.returns
 returns g c =
     let all : c.loop-i.i ≡ g.row.N = omega arith in
     sym (take_all c.loop-i.i c.loop-i.part-items (omega arith)) ∙ c.loop-i.invariant.front
-    ∙ ap (λ n. each g.T.Part.from g.T.Part.width n c.args.bytes.now) all
+    ∙ ap (λ n. each g.T.Part.from g.T.Part.WIDTH n c.args.bytes.now) all

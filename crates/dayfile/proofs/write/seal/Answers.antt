@@ -3,4 +3,4 @@ use Rattle.dayfile.proofs.Encodings.{sealed_is}
 use Rattle.dayfile.proofs.write.seal.Goals as goal
 
 pub returns : goal.returns
-returns c = sealed_is c.args.block.now c.write_number.new.block c.check_of-check.result (search rules) c.write_number.ensures.written c.check_of-check.ensures
+returns c = sealed_is c.args.block.now c.write.new.block c.check_of-check.result (search rules) c.write.ensures.written c.check_of-check.ensures
