@@ -48,7 +48,11 @@ fn is_owned(block: &[u8; BLOCK], limit: usize) -> bool
     if block[0] != b'G' {
         return true;
     }
-    kept(&read_parts::<Owner, OWNERS>(&block[120..168]), block[113] as usize, limit)
+    kept(
+        &read_parts::<Owner, OWNERS>(&block[120..168]),
+        block[113] as usize,
+        limit,
+    )
 }
 
 /// The first fault of a block by itself.

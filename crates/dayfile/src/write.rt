@@ -78,6 +78,7 @@ fn overwrite(out: &mut [u8], block: &[u8; BLOCK])
 
 impl DayRecord {
     /// Writes the fields over an empty block.
+    #[tactic(auto, using(crate::proofs::Fills::day_filled))]
     fn fill(&self, block: &mut [u8])
         requires { block.old ≡ zeros 512 }
         ensures bytes { block.new ≡ day_body self.now ++ zeros 4 }
@@ -93,6 +94,7 @@ impl DayRecord {
 
 impl ParticipantRecord {
     /// Writes the fields over an empty block.
+    #[tactic(auto, using(crate::proofs::Fills::participant_filled))]
     fn fill(&self, block: &mut [u8])
         requires { block.old ≡ zeros 512 }
         ensures bytes { block.new ≡ participant_body self.now ++ zeros 4 }
@@ -133,6 +135,7 @@ impl ResourceRecord {
 
 impl RealTimeRecord {
     /// Writes the fields over an empty block.
+    #[tactic(auto, using(crate::proofs::Fills::real_time_filled))]
     fn fill(&self, block: &mut [u8])
         requires { block.old ≡ zeros 512 }
         ensures bytes { block.new ≡ real_time_body self.now ++ zeros 4 }

@@ -1,8 +1,0 @@
-use Rattle.std.proofs.Common.{refl, rules}
-use Rattle.dayfile.proofs.Fills.{participant_filled}
-use Rattle.dayfile.proofs.record.ParticipantRecord.fill.Goals as goal
-
-pub returns-clause-bytes : goal.returns-clause-bytes
-returns-clause-bytes c =
-    participant_filled c.args.self.now c.args.block.now _ c.write.new.block c.write_parts.new.block c.write-2.new.block c.write-3.new.block (search rules) c.requires refl
-    c.write.ensures.written c.write_parts.ensures.written c.write-2.ensures.written c.write-3.ensures.written
