@@ -1,5 +1,6 @@
 use Rattle.std.proofs.Common.{◌≡◌, true, Some, None, sym, ap, ◌∙◌}
 use Rattle.dayfile.specs.Files.{answer}
+use Rattle.dayfile.specs.Owners.{owners_kept}
 use Rattle.dayfile.specs.Writing.{record_owned}
 use Rattle.dayfile.proofs.Refusals.{found, refused_field, refused_owners, refused_room, unrefused, unowned}
 use Rattle.dayfile.proofs.write.refuse.Goals as goal
@@ -15,7 +16,7 @@ pub returns-then-not-kept : goal.returns-then-not-kept
 returns-then-not-kept c =
     let r = c.args.rec.now in
     let f = found r c.args.block.now c.table_for.result.now None c.in_default.ensures c.table_for.ensures.table c.requires in
-    record { value = sym (ap answer (refused_owners r c.args.room f (ap (record_owned 48) c.in-Resource.is ∙ sym c.if-not-kept.ensures))) }
+    record { value = sym (ap answer (refused_owners r c.args.room f (ap (record_owned 48) c.in-Resource.is ∙ ap (λ k. owners_kept 48 k c.in-Resource.g.owners) (sym c.from.ensures) ∙ sym c.if-not-kept.ensures))) }
 
 pub returns-then-room-lt512 : goal.returns-then-room-lt512
 returns-then-room-lt512 c =
@@ -23,7 +24,7 @@ returns-then-room-lt512 c =
     let f = found r c.args.block.now c.table_for.result.now None c.in_default.ensures c.table_for.ensures.table c.requires in
     let o : record_owned 48 c.args.rec.now ≡ true =
     elim c.match-rec.branch [
-      | in-Resource+else-not-kept w ↦ ap (record_owned 48) w.in-Resource.is ∙ sym w.if-not-kept.ensures
+      | in-Resource+else-not-kept w ↦ ap (record_owned 48) w.in-Resource.is ∙ ap (λ k. owners_kept 48 k w.in-Resource.g.owners) (sym w.from.ensures) ∙ sym w.if-not-kept.ensures
       | in_default-rec w ↦ unowned 48 c.args.rec.now w.in_default-rec.not-Resource
     ] in
     record { value = sym (ap answer (refused_room r c.args.room f o c.if-room-lt512.true)) }
@@ -34,7 +35,7 @@ returns-else-room-lt512 c =
     let f = found r c.args.block.now c.table_for.result.now None c.in_default.ensures c.table_for.ensures.table c.requires in
     let o : record_owned 48 c.args.rec.now ≡ true =
     elim c.match-rec.branch [
-      | in-Resource+else-not-kept w ↦ ap (record_owned 48) w.in-Resource.is ∙ sym w.if-not-kept.ensures
+      | in-Resource+else-not-kept w ↦ ap (record_owned 48) w.in-Resource.is ∙ ap (λ k. owners_kept 48 k w.in-Resource.g.owners) (sym w.from.ensures) ∙ sym w.if-not-kept.ensures
       | in_default-rec w ↦ unowned 48 c.args.rec.now w.in_default-rec.not-Resource
     ] in
     record { value = sym (ap answer (unrefused r c.args.room f o c.if-room-lt512.false)) }
