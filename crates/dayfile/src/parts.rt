@@ -3,7 +3,7 @@ ghost use Rattle.std.specs.Prelude.{◌≡◌, ◌+◌, ◌^◌, ◌<◌, ◌≤
 ghost use Rattle.std.specs.Int.{w32};
 ghost use Rattle.std.proofs.Common.{of_z};
 ghost use Rattle.dayfile.specs.Bytes.{digits, laid};
-ghost use Rattle.dayfile.specs.Records.{byte_bytes, byte_from, half_bytes, half_from, word_bytes, word_from, signed_bytes, signed_from, flag_number, flag_named, FlagNumbered, flag_bytes, flag_from, event_number, event_named, EventNumbered, event_bytes, event_from, load_bytes, load_from, owner_bytes, owner_from, hour_bytes, hour_from};
+ghost use Rattle.dayfile.specs.Records.{byte_bytes, byte_from, half_bytes, half_from, word_bytes, word_from, signed_bytes, signed_from, flag_number, FlagNumbered, flag_bytes, flag_from, event_number, EventNumbered, event_bytes, event_from, load_bytes, load_from, owner_bytes, owner_from, hour_bytes, hour_from};
 ghost use Rattle.dayfile.specs.Widths.{byte_long, half_long, word_long, signed_long, flag_long, event_long, load_long, owner_long, hour_long, one, two, four, six, twelve};
 ghost use Rattle.dayfile.specs.Writing.{LoadFits, OwnerFits, HourFits};
 
@@ -21,13 +21,6 @@ impl Flag {
             Flag::Var => 2,
             Flag::Scr => 3,
         }
-    }
-
-    /// The flag of a number; every number above 2 is taken for 3.
-    fn named(number: u8) -> Flag
-        ensures { result ≡ flag_named number }
-    {
-        Flag::try_from(number).unwrap_or(Flag::Scr)
     }
 }
 
@@ -61,13 +54,6 @@ impl Event {
             Event::IsoRestart => 4,
             Event::OwnRestart => 5,
         }
-    }
-
-    /// The event of a number; every number above 4 is taken for 5.
-    fn named(number: u8) -> Event
-        ensures { result ≡ event_named number }
-    {
-        Event::try_from(number).unwrap_or(Event::OwnRestart)
     }
 }
 
@@ -208,7 +194,7 @@ impl Part for Flag {
 
     #[tactic(auto, using(crate::proofs::Digits::front_byte))]
     fn read(block: &[u8], at: usize) -> Flag {
-        Flag::named(byte_at(block, at))
+        Flag::try_from(byte_at(block, at)).unwrap_or(Flag::Scr)
     }
 
     fn write(&self, block: &mut [u8], at: usize) {
@@ -233,7 +219,7 @@ impl Part for Event {
 
     #[tactic(auto, using(crate::proofs::Digits::front_byte))]
     fn read(block: &[u8], at: usize) -> Event {
-        Event::named(byte_at(block, at))
+        Event::try_from(byte_at(block, at)).unwrap_or(Event::OwnRestart)
     }
 
     fn write(&self, block: &mut [u8], at: usize) {

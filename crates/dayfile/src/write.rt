@@ -27,13 +27,12 @@ pub fn write_record(rec: &Record, out: &mut [u8]) -> Result<(), Fault>
 }
 
 /// The block of a record, whatever its fields hold.
-fn compose(rec: &Record) -> [u8; 512]
+fn compose(rec: &Record) -> [u8; BLOCK]
     ensures value { result ≡ encode rec.now }
     ensures front { take 508 result ≡ body rec.now }
-    ensures len { length result ≡ 512 }
     ensures fits { Fitting rec.now }
 {
-    let mut block = [0u8; 512];
+    let mut block = [0; BLOCK];
     match rec {
         Record::Day(d) => d.fill(&mut block),
         Record::Participant(p) => p.fill(&mut block),
@@ -57,7 +56,11 @@ fn refuse(rec: &Record, block: &[u8; BLOCK], room: usize) -> Result<(), Fault>
             return Err(Fault::RecordOwners);
         }
     }
-    if room < 512 { Err(Fault::Room) } else { Ok(()) }
+    if room < BLOCK {
+        Err(Fault::Room)
+    } else {
+        Ok(())
+    }
 }
 
 /// Writes the check behind a block's first 508 bytes.
@@ -73,13 +76,13 @@ fn overwrite(out: &mut [u8], block: &[u8; BLOCK])
     requires { 512 ≤ length out.old }
     ensures { out.new ≡ block.now ++ drop 512 out.old }
 {
-    out[0..512].copy_from_slice(block);
+    out[0..BLOCK].copy_from_slice(block);
 }
 
 impl DayRecord {
     /// Writes the fields over an empty block.
     #[tactic(auto, using(crate::proofs::Fills::day_filled))]
-    fn fill(&self, block: &mut [u8])
+    fn fill(&self, block: &mut [u8; BLOCK])
         requires { block.old ≡ zeros 512 }
         ensures bytes { block.new ≡ day_body self.now ++ zeros 4 }
         ensures fits { Fitting (Day self.now) }
@@ -95,7 +98,7 @@ impl DayRecord {
 impl ParticipantRecord {
     /// Writes the fields over an empty block.
     #[tactic(auto, using(crate::proofs::Fills::participant_filled))]
-    fn fill(&self, block: &mut [u8])
+    fn fill(&self, block: &mut [u8; BLOCK])
         requires { block.old ≡ zeros 512 }
         ensures bytes { block.new ≡ participant_body self.now ++ zeros 4 }
         ensures fits { Fitting (Participant self.now) }
@@ -110,7 +113,7 @@ impl ParticipantRecord {
 
 impl ResourceRecord {
     /// Writes the fields over an empty block.
-    fn fill(&self, block: &mut [u8])
+    fn fill(&self, block: &mut [u8; BLOCK])
         requires { block.old ≡ zeros 512 }
         ensures bytes { block.new ≡ resource_body self.now ++ zeros 4 }
         ensures fits { Fitting (Resource self.now) }
@@ -135,8 +138,7 @@ impl ResourceRecord {
 
 impl RealTimeRecord {
     /// Writes the fields over an empty block.
-    #[tactic(auto, using(crate::proofs::Fills::real_time_filled))]
-    fn fill(&self, block: &mut [u8])
+    fn fill(&self, block: &mut [u8; BLOCK])
         requires { block.old ≡ zeros 512 }
         ensures bytes { block.new ≡ real_time_body self.now ++ zeros 4 }
         ensures fits { Fitting (RealTime self.now) }

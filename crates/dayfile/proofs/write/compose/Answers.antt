@@ -23,4 +23,4 @@ returns c =
       | in-RealTime w ↦ w.block-is ∙ w.fill-in-RealTime.ensures.bytes ∙ ap (λ r. body r ++ zeros 4) (sym w.in-RealTime.is)
     ] in
     let k = composed c.args.rec.now c.match-rec.block c.seal.new.block fits bytes c.seal.ensures in
-    record { value = k.value; front = k.front; len = k.len; fits = fits }
+    record { value = k.value; front = k.front; fits = fits }

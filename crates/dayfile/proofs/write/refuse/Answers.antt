@@ -18,8 +18,8 @@ returns-then-not-kept c =
     let f = found r c.args.block.now c.table_for.result.now None c.in_default.ensures c.table_for.ensures.table c.requires in
     record { value = sym (ap answer (refused_owners r c.args.room f (ap (record_owned 48) c.in-Resource.is ∙ ap (λ k. owners_kept 48 k c.in-Resource.g.owners) (sym c.from.ensures) ∙ sym c.if-not-kept.ensures))) }
 
-pub returns-then-room-lt512 : goal.returns-then-room-lt512
-returns-then-room-lt512 c =
+pub returns-then-room-lt-BLOCK : goal.returns-then-room-lt-BLOCK
+returns-then-room-lt-BLOCK c =
     let r = c.args.rec.now in
     let f = found r c.args.block.now c.table_for.result.now None c.in_default.ensures c.table_for.ensures.table c.requires in
     let o : record_owned 48 c.args.rec.now ≡ true =
@@ -27,10 +27,10 @@ returns-then-room-lt512 c =
       | in-Resource+else-not-kept w ↦ ap (record_owned 48) w.in-Resource.is ∙ ap (λ k. owners_kept 48 k w.in-Resource.g.owners) (sym w.from.ensures) ∙ sym w.if-not-kept.ensures
       | in_default-rec w ↦ unowned 48 c.args.rec.now w.in_default-rec.not-Resource
     ] in
-    record { value = sym (ap answer (refused_room r c.args.room f o c.if-room-lt512.true)) }
+    record { value = sym (ap answer (refused_room r c.args.room f o c.if-room-lt-BLOCK.true)) }
 
-pub returns-else-room-lt512 : goal.returns-else-room-lt512
-returns-else-room-lt512 c =
+pub returns-else-room-lt-BLOCK : goal.returns-else-room-lt-BLOCK
+returns-else-room-lt-BLOCK c =
     let r = c.args.rec.now in
     let f = found r c.args.block.now c.table_for.result.now None c.in_default.ensures c.table_for.ensures.table c.requires in
     let o : record_owned 48 c.args.rec.now ≡ true =
@@ -38,4 +38,4 @@ returns-else-room-lt512 c =
       | in-Resource+else-not-kept w ↦ ap (record_owned 48) w.in-Resource.is ∙ ap (λ k. owners_kept 48 k w.in-Resource.g.owners) (sym w.from.ensures) ∙ sym w.if-not-kept.ensures
       | in_default-rec w ↦ unowned 48 c.args.rec.now w.in_default-rec.not-Resource
     ] in
-    record { value = sym (ap answer (unrefused r c.args.room f o c.if-room-lt512.false)) }
+    record { value = sym (ap answer (unrefused r c.args.room f o c.if-room-lt-BLOCK.false)) }
