@@ -12,5 +12,6 @@ chunk n (suc m) (suc k) xs h =
     let e : n + n * k ≡ n * suc k = omega arith in
     chunk n m k (drop n xs) (omega arith) ∙ ap (take n) (drop-drop (n * k) n xs ∙ ap (λ i. drop i xs) e)
 
-pub block_chunk : (f : List ℕ) (k : ℕ) → k < blocks f → get_or (first_chunks 512 (length f / 512) f) k [] ≡ block f k
-block_chunk f k h = chunk 512 (length f / 512) k f h
+-- block k of a file that is cut into blocks
+pub block_chunk : (f : List ℕ) (cs : List (List ℕ)) (k : ℕ) → cs ≡ first_chunks 512 (length f / 512) f → k < blocks f → get_or cs k [] ≡ block f k
+block_chunk f cs k e h = ap (λ c. get_or c k []) e ∙ chunk 512 (length f / 512) k f h

@@ -51,8 +51,7 @@ fn judge_blocks(file: &[u8]) -> Result<Before, Fault>
     ensures { result ≡ behind file.now }
 {
     let mut before = Before::nothing();
-    for k in 0..file.len() / BLOCK {
-        let block = block_at(file, k);
+    for (k, block) in file.as_chunks::<BLOCK>().0.iter().enumerate() {
         before.judge(block, k)?;
         before.note(block);
     }
