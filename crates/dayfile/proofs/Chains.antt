@@ -4,7 +4,7 @@ use Rattle.std.specs.List.{flat_map}
 use Rattle.std.proofs.lemmas.List.{append_assoc, length-take, length-take-le, length-drop, drop-drop, take_at, drop_at, get_or-take, get_or_past}
 use Rattle.std.proofs.lemmas.Bool.{eq-eqb, cases_lt}
 use Rattle.dayfile.specs.declared.fault.Fault.{Fault}
-use Rattle.dayfile.specs.declared.before.Before.{Before}
+use Rattle.dayfile.specs.Files.{Standing}
 use Rattle.dayfile.specs.declared.record.Record.{Record}
 use Rattle.dayfile.specs.declared.record.Record.TheVariants.{Day, Participant, Resource, RealTime}
 use Rattle.dayfile.specs.Bytes.{value}
@@ -29,7 +29,7 @@ own_number (Resource g) = g.number
 own_number (RealTime r) = r.number
 
 -- what stands behind a record
-abbrev pub step : Before → Record → Before
+abbrev pub step : Standing → Record → Standing
 step s r =
     record {
       kind = Some (kind_of r);
@@ -40,20 +40,20 @@ step s r =
       resource = cond (eqb (kind_of r) 71) (Some (own_number r)) s.resource;
     }
 
-abbrev pub Tied : Before → Record → Type 0
+abbrev pub Tied : Standing → Record → Type 0
 Tied s (Day d) = Unit {0}
 Tied s (Participant p) = Unit {0}
 Tied s (Resource g) = Unit {0}
 Tied s (RealTime r) = r.number ≡ s.number
 
-abbrev pub rises : Before → Record → Bool
+abbrev pub rises : Standing → Record → Bool
 rises s (Day d) = true
 rises s (Participant p) = above s.participant p.number
 rises s (Resource g) = above s.resource g.number
 rises s (RealTime r) = true
 
 -- a record that may stand behind what stands before it
-pub record Good (s : Before) (r : Record) : Type 0 where
+pub record Good (s : Standing) (r : Record) : Type 0 where
   pub fits : Fitting r
   pub fields : first_fault (table_for (kind_of r)) (body r) ≡ None
   pub follows : in_order s.kind (kind_of r) ≡ true
@@ -61,7 +61,7 @@ pub record Good (s : Before) (r : Record) : Type 0 where
   pub risen : rises s r ≡ true
   pub shared : record_owned s.participants r ≡ true
 
-abbrev pub Chain : Before → List Record → Type 0
+abbrev pub Chain : Standing → List Record → Type 0
 Chain s [] = Unit {0}
 Chain s (r ∷ rs) = Good s r × Chain (step s r) rs
 
@@ -120,11 +120,11 @@ pub none_judged : (k : ℕ) (a b : Bool) (o : Option ℕ) (c d : Bool) → a ≡
 none_judged k a b o c d p q r s t = rw (p, q, r, s, t) refl
 
 -- the tests of a record's block are those of the record
-after_step : (s : Before) (r : Record) → Fitting r → after s (encode r) ≡ step s r
+after_step : (s : Standing) (r : Record) → Fitting r → after s (encode r) ≡ step s r
 after_step s r w =
     ap (λ c. at c (value 4 4 (encode r))) (encode_kind r) ∙ ap (at (kind_of r)) (encode_number r w)
   where
-    at : ℕ → ℕ → Before
+    at : ℕ → ℕ → Standing
     at c n =
         record {
           kind = Some c;
@@ -138,7 +138,7 @@ after_step s r w =
 abbrev four_if : Bool → Option ℕ
 four_if b = cond b (Some 4) None
 
-untied_none : (s : Before) (r : Record) → Fitting r → Tied s r → untied s (encode r) ≡ None
+untied_none : (s : Standing) (r : Record) → Fitting r → Tied s r → untied s (encode r) ≡ None
 untied_none s r w t = ap (λ c. four_if (eqb c 82 && not (eqb (value 4 4 (encode r)) s.number))) (encode_kind r) ∙ go r w t
   where
     go : (r : Record) → Fitting r → Tied s r → four_if (eqb (kind_of r) 82 && not (eqb (value 4 4 (encode r)) s.number)) ≡ None
@@ -147,7 +147,7 @@ untied_none s r w t = ap (λ c. four_if (eqb c 82 && not (eqb (value 4 4 (encode
     go (Resource g) w t = refl
     go (RealTime q) w t = ap (λ b. four_if (not b)) (eq-eqb (value 4 4 (encode (RealTime q))) s.number (encode_number (RealTime q) w ∙ t))
 
-none_untied : (s : Before) (r : Record) → Fitting r → untied s (encode r) ≡ None → Tied s r
+none_untied : (s : Standing) (r : Record) → Fitting r → untied s (encode r) ≡ None → Tied s r
 none_untied s (Day d) w e = tt
 none_untied s (Participant p) w e = tt
 none_untied s (Resource g) w e = tt
@@ -158,7 +158,7 @@ none_untied s (RealTime q) w e =
     go (holds h) e = h
     go (fails h) e = let z : ◌≡◌ {A = ℕ} 0 1 = cc in absurd (omega arith)
 
-rising_is : (s : Before) (r : Record) → Fitting r → rising s (encode r) ≡ rises s r
+rising_is : (s : Standing) (r : Record) → Fitting r → rising s (encode r) ≡ rises s r
 rising_is s r w =
     ap (λ c. cond (eqb c 80) (above s.participant (value 4 4 (encode r))) (cond (eqb c 71) (above s.resource (value 4 4 (encode r))) true)) (encode_kind r) ∙ go r w
   where
@@ -191,7 +191,7 @@ pub owned_is : (limit : ℕ) (r : Record) → Fitting r → owned limit (encode 
 owned_is limit r w = owned_record limit (encode r) (encode_known r) ∙ ap (record_owned limit) (reads_back r w)
 
 -- a good record's block has no fault
-pub good_block : (s : Before) (r : Record) (k : ℕ) → Good s r → block_fault s k (encode r) ≡ None
+pub good_block : (s : Standing) (r : Record) (k : ℕ) → Good s r → block_fault s k (encode r) ≡ None
 good_block s r k g =
     none_judged k _ _ _ _ _
     (encode_checked r g.fits)
@@ -212,11 +212,11 @@ order_known (Some q) c e = go (eqb c 68) (eqb c 80) (eqb c 71) (eqb c 82) (eqb q
     go false false false true x y e = refl
     go false false false false x y e = e
 
-pub record BlockGood (s : Before) (b : List ℕ) : Type 0 where
+pub record BlockGood (s : Standing) (b : List ℕ) : Type 0 where
   pub good : Good s (record_of b)
   pub again : encode (record_of b) ≡ b
 
-pub block_good : (s : Before) (k : ℕ) (b : List ℕ) → length b ≡ 512 → Bytes b → block_fault s k b ≡ None → BlockGood s b
+pub block_good : (s : Standing) (k : ℕ) (b : List ℕ) → length b ≡ 512 → Bytes b → block_fault s k b ≡ None → BlockGood s b
 block_good s k b l h e =
     let j = judged_none k (checked b) (in_order s.kind (get_or b 0 0)) (earlier (first_fault (table_for (get_or b 0 0)) b) (untied s b)) (rising s b) (owned s.participants b) e in
     let kn = order_known s.kind (get_or b 0 0) j.1 in
@@ -238,7 +238,7 @@ block_good s k b l h e =
     }
 
 -- what stands behind a chain
-abbrev pub ends : Before → List Record → Before
+abbrev pub ends : Standing → List Record → Standing
 ends s [] = s
 ends s (r ∷ rs) = ends (step s r) rs
 

@@ -100,10 +100,14 @@ kind_sized (Participant p) = refl
 kind_sized (Resource g) = refl
 kind_sized (RealTime r) = refl
 
-pub fault_of_body : (r : Record) (b : List ℕ) → take 508 b ≡ body r → first_fault (table_for (get_or b 0 0)) b ≡ first_fault (table_for (kind_of r)) (body r)
+-- the table of a record's kind finds the same in its block as in its body
+pub fault_by_kind : (r : Record) (b : List ℕ) → take 508 b ≡ body r → first_fault (table_for (kind_of r)) b ≡ first_fault (table_for (kind_of r)) (body r)
+fault_by_kind r b e = sym (first_take (table_for (kind_of r)) b (kind_sized r)) ∙ ap (first_fault (table_for (kind_of r))) e
+
+fault_of_body : (r : Record) (b : List ℕ) → take 508 b ≡ body r → first_fault (table_for (get_or b 0 0)) b ≡ first_fault (table_for (kind_of r)) (body r)
 fault_of_body r b e =
     let k : get_or b 0 0 ≡ kind_of r = sym (get_or-take 508 b 0 0 (omega arith)) ∙ ap (λ t. get_or t 0 0) e ∙ body_kind r in
-    ap (λ n. first_fault (table_for n) b) k ∙ sym (first_take (table_for (kind_of r)) b (kind_sized r)) ∙ ap (first_fault (table_for (kind_of r))) e
+    ap (λ n. first_fault (table_for n) b) k ∙ fault_by_kind r b e
 
 pub encode_fault : (r : Record) → Fitting r → first_fault (table_for (get_or (encode r) 0 0)) (encode r) ≡ first_fault (table_for (kind_of r)) (body r)
 encode_fault r f = fault_of_body r (encode r) (body_front r f)

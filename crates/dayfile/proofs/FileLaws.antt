@@ -5,7 +5,7 @@ use Rattle.std.proofs.lemmas.List.{length-append, length-map, take_all, get_or-t
 use Rattle.std.proofs.lemmas.Bool.{cond-true, eq-eqb, ne_eqb, lt-ltb, eqb-true, eqb-false, and_parts, le-leb, leb-true, cases_lt}
 use Rattle.dayfile.specs.declared.fault.Fault.{Fault}
 use Rattle.dayfile.specs.declared.fault.Fault.TheVariants.{Length, Counts}
-use Rattle.dayfile.specs.declared.before.Before.{Before}
+use Rattle.dayfile.specs.Files.{Standing}
 use Rattle.dayfile.specs.declared.record.Record.{Record}
 use Rattle.dayfile.specs.declared.record.Record.TheVariants.{Day, Participant}
 use Rattle.dayfile.specs.declared.record.DayRecord.{DayRecord}
@@ -183,7 +183,7 @@ counts_of d rest w =
       get_or_append_left b rest 0 11 (omega (arith, n)) ∙ sym (head_byte b 7 (omega arith)) ∙ ap (λ (x : DayRecord). x.resources) s,
     )
 
-pub joined_length : (rs : List Record) (s : Before) → Chain s rs → length (flat_map encode rs) ≡ 512 * length rs
+pub joined_length : (rs : List Record) (s : Standing) → Chain s rs → length (flat_map encode rs) ≡ 512 * length rs
 joined_length [] s c = refl
 joined_length (r ∷ rs) s c = length-append (encode r) (flat_map encode rs) ∙ omega (arith, length_encode r c.0.fits, joined_length rs (step s r) c.1)
 
@@ -215,8 +215,8 @@ shaped_accepted d ps us h dp dr lp lu f e =
       whole = omega (arith, lf);
       short = omega (arith, lf, m, few);
       none = ap (blocks_fault f 0) bs ∙ a.none;
-      participants = ap (λ (s : Before). s.participants) st ∙ de.0 ∙ sym dp ∙ sym co.0 ∙ ap (λ x. get_or x 10 0) e;
-      resources = ap (λ (s : Before). s.resources) st ∙ de.1 ∙ sym dr ∙ sym co.1 ∙ ap (λ x. get_or x 11 0) e;
+      participants = ap (λ (s : Standing). s.participants) st ∙ de.0 ∙ sym dp ∙ sym co.0 ∙ ap (λ x. get_or x 10 0) e;
+      resources = ap (λ (s : Standing). s.resources) st ∙ de.1 ∙ sym dr ∙ sym co.1 ∙ ap (λ x. get_or x 11 0) e;
     })
 
 -- and the other way: an accepted file's records are a day's
@@ -251,7 +251,7 @@ accepted_shaped f h p =
       us = s.us;
       same = s.same;
       shaped = s.shaped;
-      participants = sym co.0 ∙ ap (λ x. get_or x 10 0) again ∙ sym p.participants ∙ sym (ap (λ (x : Before). x.participants) en) ∙ de.0;
-      resources = sym co.1 ∙ ap (λ x. get_or x 11 0) again ∙ sym p.resources ∙ sym (ap (λ (x : Before). x.resources) en) ∙ de.1;
+      participants = sym co.0 ∙ ap (λ x. get_or x 10 0) again ∙ sym p.participants ∙ sym (ap (λ (x : Standing). x.participants) en) ∙ de.0;
+      resources = sym co.1 ∙ ap (λ x. get_or x 11 0) again ∙ sym p.resources ∙ sym (ap (λ (x : Standing). x.resources) en) ∙ de.1;
       again = again;
     }

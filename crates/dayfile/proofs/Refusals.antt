@@ -11,7 +11,7 @@ use Rattle.dayfile.specs.Layout.{first_fault, table_for}
 use Rattle.dayfile.specs.Files.{answer}
 use Rattle.dayfile.specs.Records.{body, encode, kind_of}
 use Rattle.dayfile.specs.Writing.{record_owned, unwritten, Done, Writes}
-use Rattle.dayfile.proofs.Encodings.{fault_of_body}
+use Rattle.dayfile.proofs.Encodings.{fault_by_kind}
 
 module _ (r : Record) (room : ℕ) where
   abbrev refused : Option ℕ → Option Fault
@@ -33,9 +33,9 @@ module _ (r : Record) (room : ℕ) where
   unrefused e o l = refused_else e ∙ cond-true _ _ _ o ∙ cond-false _ _ _ (le-ltb room 512 l)
 
 -- what the table finds in the block
-pub found : (r : Record) (b : List ℕ) (t : List Entry) (o : Option ℕ) → o ≡ first_fault t b → t ≡ table_for (get_or b 0 0) → take 508 b ≡ body r
+pub found : (r : Record) (b : List ℕ) (t : List Entry) (o : Option ℕ) → o ≡ first_fault t b → t ≡ table_for (kind_of r) → take 508 b ≡ body r
     → first_fault (table_for (kind_of r)) (body r) ≡ o
-found r b t o e f g = sym (e ∙ ap (λ u. first_fault u b) f ∙ fault_of_body r b g)
+found r b t o e f g = sym (e ∙ ap (λ u. first_fault u b) f ∙ fault_by_kind r b g)
 
 -- what a record that is written is
 pub record Written (r : Record) (room : ℕ) : Type 0 where

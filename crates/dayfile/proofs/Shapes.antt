@@ -1,7 +1,7 @@
 -- A chain of records is a day, its participants, and its Resources each with an optional real-time record.
 use Rattle.std.proofs.Common.{◌≡◌, ℕ, suc, ◌+◌, ◌<◌, true, false, eqb, ◌⊎◌, List, [], ◌∷◌, ◌++◌, map, length, Some, None, Option, sym, refl, ap, ◌∙◌, subst, inl, inr, add-zero, zero-add, arith}
 use Rattle.std.specs.List.{flat_map, AllByRecursion}
-use Rattle.dayfile.specs.declared.before.Before.{Before}
+use Rattle.dayfile.specs.Files.{Standing}
 use Rattle.dayfile.specs.declared.record.Record.{Record}
 use Rattle.dayfile.specs.declared.record.Record.TheVariants.{Day, Participant, Resource, RealTime}
 use Rattle.dayfile.specs.declared.record.DayRecord.{DayRecord}
@@ -35,11 +35,11 @@ abbrev pub PairSound : ℕ → Generator → Type 0
 PairSound limit u = Sound (Resource u.0) × (record_owned limit (Resource u.0) ≡ true) × ReadOut u.0 u.1
 
 -- a Resource waits for its real-time record, or the next Resource is awaited
-abbrev Waiting : Before → Option ResourceRecord → Type 0
+abbrev Waiting : Standing → Option ResourceRecord → Type 0
 Waiting s None = s.kind ≡ Some 82
 Waiting s (Some g) = (s.kind ≡ Some 71) × (s.number ≡ g.number) × Sound (Resource g) × (record_owned s.participants (Resource g) ≡ true)
 
-abbrev Rest : Before → Option ResourceRecord → List Record → Type 0
+abbrev Rest : Standing → Option ResourceRecord → List Record → Type 0
 Rest s None rs = (us : List Generator) × ((rs ≡ flat_map generator_records us) × AllByRecursion (PairSound s.participants) us × RisesBehind s.resource (map pair_number us))
 Rest s (Some g) rs =
     (x : Option RealTimeRecord) × ((us : List Generator) × ((Resource g ∷ rs ≡ generator_records (g, x) ++ flat_map generator_records us) × PairSound s.participants (g, x)
@@ -50,10 +50,10 @@ wrong o b c e f t =
     let q : true ≡ false = sym t ∙ ap (λ x. in_order x c) e ∙ f in
     let z : ◌≡◌ {A = ℕ} 0 1 = cc in absurd (omega arith)
 
-sound_of : {s : Before} {r : Record} → Good s r → Sound r
+sound_of : {s : Standing} {r : Record} → Good s r → Sound r
 sound_of g = (g.fits, g.fields)
 
-rest : (rs : List Record) (s : Before) (o : Option ResourceRecord) → Waiting s o → Chain s rs → Rest s o rs
+rest : (rs : List Record) (s : Standing) (o : Option ResourceRecord) → Waiting s o → Chain s rs → Rest s o rs
 rest [] s None w c = ([], (refl, tt, tt))
 rest [] s (Some g) w c = (None, ([], (refl, (w.2, w.3, tt), tt, tt)))
 rest (Day d ∷ rs) s None w c = wrong s.kind 82 68 w refl c.0.follows
@@ -103,7 +103,7 @@ rest (RealTime q ∷ rs) s (Some g) w c =
     )
 
 -- participants, and Resources behind them
-pub record Phases (s : Before) (rs : List Record) : Type 0 where
+pub record Phases (s : Standing) (rs : List Record) : Type 0 where
   pub ps : List ParticipantRecord
   pub us : List Generator
   pub same : rs ≡ map Participant ps ++ flat_map generator_records us
@@ -112,13 +112,13 @@ pub record Phases (s : Before) (rs : List Record) : Type 0 where
   pub pairs : AllByRecursion (PairSound (s.participants + length ps)) us
   pub above : RisesBehind s.resource (map pair_number us)
 
-abbrev Opening : Before → Type 0
+abbrev Opening : Standing → Type 0
 Opening s = (s.kind ≡ Some 68) ⊎ (s.kind ≡ Some 80)
 
-unopened : {P : Type 0} (s : Before) (c : ℕ) → Opening s → in_order (Some 68) c ≡ false → in_order (Some 80) c ≡ false → in_order s.kind c ≡ true → P
+unopened : {P : Type 0} (s : Standing) (c : ℕ) → Opening s → in_order (Some 68) c ≡ false → in_order (Some 80) c ≡ false → in_order s.kind c ≡ true → P
 unopened s c o e f t = elim o [ inl q ↦ wrong s.kind 68 c q e t | inr q ↦ wrong s.kind 80 c q f t ]
 
-phases : (rs : List Record) (s : Before) → Opening s → Chain s rs → Phases s rs
+phases : (rs : List Record) (s : Standing) → Opening s → Chain s rs → Phases s rs
 phases [] s o c = record { ps = []; us = []; same = refl; sound = tt; risen = tt; pairs = tt; above = tt }
 phases (Day d ∷ rs) s o c = unopened s 68 o refl refl c.0.follows
 phases (Participant p ∷ rs) s o c =
@@ -185,7 +185,7 @@ chain_shape (Resource g ∷ rs) l c = first_wrong 71 refl c.0.follows
 chain_shape (RealTime q ∷ rs) l c = first_wrong 82 refl c.0.follows
 
 -- and the other way: such records are a chain
-pair_chain : (us : List Generator) (s : Before) (b : ℕ) → s.kind ≡ Some b → AllByRecursion (PairSound s.participants) us → RisesBehind s.resource (map pair_number us) → Chain s (flat_map generator_records us)
+pair_chain : (us : List Generator) (s : Standing) (b : ℕ) → s.kind ≡ Some b → AllByRecursion (PairSound s.participants) us → RisesBehind s.resource (map pair_number us) → Chain s (flat_map generator_records us)
 pair_chain [] s b k a r = tt
 pair_chain ((g, None) ∷ us) s b k a r =
     let e = sym (add-zero s.participants) in (
@@ -205,13 +205,13 @@ pair_chain ((g, Some q) ∷ us) s b k a r =
       ),
     )
 
-opened : (s : Before) → Opening s → in_order s.kind 80 ≡ true
+opened : (s : Standing) → Opening s → in_order s.kind 80 ≡ true
 opened s o = elim o [ inl e ↦ ap (λ x. in_order x 80) e | inr e ↦ ap (λ x. in_order x 80) e ]
 
-opening_kind : (s : Before) → Opening s → (b : ℕ) × (s.kind ≡ Some b)
+opening_kind : (s : Standing) → Opening s → (b : ℕ) × (s.kind ≡ Some b)
 opening_kind s o = elim o [ inl e ↦ (68, e) | inr e ↦ (80, e) ]
 
-part_chain : (ps : List ParticipantRecord) (us : List Generator) (s : Before) → Opening s → AllByRecursion (λ p. Sound (Participant p)) ps → RisesBehind s.participant (map (λ p. p.number) ps)
+part_chain : (ps : List ParticipantRecord) (us : List Generator) (s : Standing) → Opening s → AllByRecursion (λ p. Sound (Participant p)) ps → RisesBehind s.participant (map (λ p. p.number) ps)
     → AllByRecursion (PairSound (s.participants + length ps)) us → RisesBehind s.resource (map pair_number us) → Chain s (map Participant ps ++ flat_map generator_records us)
 part_chain [] us s o a r b t =
     let k = opening_kind s o in pair_chain us s k.0 k.1 (subst (λ n. AllByRecursion (PairSound n) us) (add-zero s.participants) b) t
@@ -228,7 +228,7 @@ shape_chain d ps us h = (
 )
 
 -- what stands behind a whole day
-ends_pairs : (us : List Generator) (s : Before) → ((ends s (flat_map generator_records us)).participants ≡ s.participants) × ((ends s (flat_map generator_records us)).resources ≡ s.resources + length us)
+ends_pairs : (us : List Generator) (s : Standing) → ((ends s (flat_map generator_records us)).participants ≡ s.participants) × ((ends s (flat_map generator_records us)).resources ≡ s.resources + length us)
 ends_pairs [] s = (refl, sym (add-zero s.resources))
 ends_pairs ((g, None) ∷ us) s =
     let h = ends_pairs us (step s (Resource g)) in
@@ -237,11 +237,11 @@ ends_pairs ((g, Some q) ∷ us) s =
     let h = ends_pairs us (step (step s (Resource g)) (RealTime q)) in
     (omega (arith, h.0), omega (arith, h.1))
 
-ends_parts : (ps : List ParticipantRecord) (rs : List Record) (s : Before) → ends s (map Participant ps ++ rs) ≡ ends (ends s (map Participant ps)) rs
+ends_parts : (ps : List ParticipantRecord) (rs : List Record) (s : Standing) → ends s (map Participant ps ++ rs) ≡ ends (ends s (map Participant ps)) rs
 ends_parts [] rs s = refl
 ends_parts (p ∷ ps) rs s = ends_parts ps rs (step s (Participant p))
 
-ends_counts : (ps : List ParticipantRecord) (s : Before) → ((ends s (map Participant ps)).participants ≡ s.participants + length ps) × ((ends s (map Participant ps)).resources ≡ s.resources)
+ends_counts : (ps : List ParticipantRecord) (s : Standing) → ((ends s (map Participant ps)).participants ≡ s.participants + length ps) × ((ends s (map Participant ps)).resources ≡ s.resources)
 ends_counts [] s = (sym (add-zero s.participants), refl)
 ends_counts (p ∷ ps) s =
     let h = ends_counts ps (step s (Participant p)) in
@@ -254,6 +254,6 @@ day_ends d ps us =
     let e = ends_parts ps (flat_map generator_records us) s in
     let h = ends_counts ps s in
     let g = ends_pairs us (ends s (map Participant ps)) in (
-      ap (λ (b : Before). b.participants) e ∙ g.0 ∙ h.0 ∙ zero-add (length ps),
-      ap (λ (b : Before). b.resources) e ∙ g.1 ∙ ap (λ n. n + length us) h.1 ∙ zero-add (length us),
+      ap (λ (b : Standing). b.participants) e ∙ g.0 ∙ h.0 ∙ zero-add (length ps),
+      ap (λ (b : Standing). b.resources) e ∙ g.1 ∙ ap (λ n. n + length us) h.1 ∙ zero-add (length us),
     )

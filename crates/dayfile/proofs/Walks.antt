@@ -1,7 +1,7 @@
 -- The walk over the blocks of a file.
 use Rattle.std.proofs.Common.{◌≡◌, ℕ, suc, ◌+◌, ◌-◌, ◌<◌, ◌≤◌, Bool, true, false, cond, eqb, List, get_or, Some, None, Ok, Err, Option, refl, ap, ◌∙◌, add-one, arith}
 use Rattle.dayfile.specs.declared.fault.Fault.{Fault}
-use Rattle.dayfile.specs.declared.before.Before.{Before}
+use Rattle.dayfile.specs.Files.{Standing}
 use Rattle.dayfile.specs.Files.{tally, latest, kind_before, number_before, standing, after, nothing, block, blocks, block_fault, blocks_fault, behind, or_else, answer}
 
 -- what stands before the first block, and before the next
@@ -50,8 +50,8 @@ pub at_most_one : (b : Bool) → cond b 1 0 ≤ 1
 at_most_one true = omega arith
 at_most_one false = omega arith
 
-pub after_participants : (s : Before) (b : List ℕ) → (after s b).participants ≤ s.participants + 1
+pub after_participants : (s : Standing) (b : List ℕ) → (after s b).participants ≤ s.participants + 1
 after_participants s b = omega (arith, at_most_one (eqb (get_or b 0 0) 80))
 
-pub after_resources : (s : Before) (b : List ℕ) → (after s b).resources ≤ s.resources + 1
+pub after_resources : (s : Standing) (b : List ℕ) → (after s b).resources ≤ s.resources + 1
 after_resources s b = omega (arith, at_most_one (eqb (get_or b 0 0) 71))

@@ -3,7 +3,7 @@ use Rattle.std.proofs.Common.{◌≡◌, ℕ, ◌+◌, ◌*◌, ◌^◌, ◌≤�
 use Rattle.std.specs.List.{flat_map, AllByRecursion}
 use Rattle.std.proofs.lemmas.List.{append_assoc, take_at, drop_at, drop-drop}
 use Rattle.std.proofs.lemmas.Bool.{ltb-true, lt-ltb}
-use Rattle.dayfile.specs.declared.before.Before.{Before}
+use Rattle.dayfile.specs.Files.{Standing}
 use Rattle.dayfile.specs.declared.record.Record.{Record}
 use Rattle.dayfile.specs.declared.record.Record.TheVariants.{Day, Participant, Resource, RealTime}
 use Rattle.dayfile.specs.declared.record.DayRecord.{DayRecord}
@@ -93,7 +93,7 @@ module _ (d : DayRecord) (ps : List ParticipantRecord) (gs : List Generator) whe
       }
 
 -- the records of a file that is a chain's joined blocks
-reads_all : (rs : List Record) (s : Before) (f rest : List ℕ) (k : ℕ) → drop (512 * k) f ≡ flat_map encode rs ++ rest → Chain s rs → records_from f k (length rs) ≡ rs
+reads_all : (rs : List Record) (s : Standing) (f rest : List ℕ) (k : ℕ) → drop (512 * k) f ≡ flat_map encode rs ++ rest → Chain s rs → records_from f k (length rs) ≡ rs
 unfolding records_from
 reads_all [] s f rest k e c = refl
 reads_all (r ∷ rs) s f rest k e c =

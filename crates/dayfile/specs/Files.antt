@@ -2,7 +2,6 @@
 use Rattle.std.specs.Prelude.{ℕ, zero, suc, ◌+◌, ◌*◌, ◌/◌, ◌%◌, Bool, true, cond, not, ◌&&◌, ◌||◌, List, length, take, drop, is_some, Some, None, Ok, Err, Option, Result, ◌==◌, nat_le, nat_lt, slice_index}
 use Rattle.dayfile.specs.declared.fault.Fault.{Fault}
 use Rattle.dayfile.specs.declared.fault.Fault.TheVariants.{Length, Check, Order, Field, Rising, Owners, Counts}
-use Rattle.dayfile.specs.declared.before.Before.{Before}
 use Rattle.dayfile.specs.Bytes.{value, weighed}
 use Rattle.dayfile.specs.Layout.{first_fault, earlier, table_for}
 use Rattle.dayfile.specs.Owners.{owners_kept}
@@ -36,8 +35,18 @@ unfoldable pub number_before : List ℕ → ℕ → ℕ
 number_before f zero = 0
 number_before f (suc k) = number_in f k
 
+-- what stands before a block: the letter and the number of the block right before it, how many participants and Resources
+-- there are before it, and the number of the last one of each
+pub record Standing : Type 0 where
+  pub kind : Option ℕ
+  pub number : ℕ
+  pub participants : ℕ
+  pub resources : ℕ
+  pub participant : Option ℕ
+  pub resource : Option ℕ
+
 -- what stands before block k
-abbrev pub standing : List ℕ → ℕ → Before
+abbrev pub standing : List ℕ → ℕ → Standing
 standing f k =
     record {
       kind = kind_before f k;
@@ -49,11 +58,11 @@ standing f k =
     }
 
 -- nothing stands before the first block
-abbrev pub nothing : Before
+abbrev pub nothing : Standing
 nothing = record { kind = None; number = 0; participants = 0; resources = 0; participant = None; resource = None }
 
 -- what stands before the block behind b
-abbrev pub after : Before → List ℕ → Before
+abbrev pub after : Standing → List ℕ → Standing
 after s b =
     record {
       kind = Some (slice_index b 0);
@@ -74,7 +83,7 @@ in_order None c = c == 68
 in_order (Some before) c = (c == 80 && (before == 68 || before == 80)) || (c == 71 || (c == 82 && before == 71))
 
 -- R bears the number of the G before it
-abbrev pub untied : Before → List ℕ → Option ℕ
+abbrev pub untied : Standing → List ℕ → Option ℕ
 untied s b = cond (slice_index b 0 == 82 && not (value 4 4 b == s.number)) (Some 4) None
 
 -- a number is above the last one of its kind
@@ -82,7 +91,7 @@ abbrev pub above : Option ℕ → ℕ → Bool
 above None n = true
 above (Some last) n = nat_lt last n
 
-abbrev pub rising : Before → List ℕ → Bool
+abbrev pub rising : Standing → List ℕ → Bool
 rising s b =
     cond (slice_index b 0 == 80) (above s.participant (value 4 4 b)) (cond (slice_index b 0 == 71) (above s.resource (value 4 4 b)) true)
 
@@ -103,7 +112,7 @@ judged k check order field rise owners =
     (Some (Check k))
 
 -- the first fault of block k behind what stands before it
-abbrev pub block_fault : Before → ℕ → List ℕ → Option Fault
+abbrev pub block_fault : Standing → ℕ → List ℕ → Option Fault
 block_fault s k b =
     judged k (checked b) (in_order s.kind (slice_index b 0)) (earlier (first_fault (table_for (slice_index b 0)) b) (untied s b)) (rising s b) (owned s.participants b)
 
@@ -131,7 +140,7 @@ abbrev pub well_sized : List ℕ → Bool
 well_sized f = not (length f == 0) && (length f % 512 == 0 && nat_le (length f) 65536)
 
 -- what stands behind all blocks of a file, or their first fault
-abbrev pub behind : List ℕ → Result Before Fault
+abbrev pub behind : List ℕ → Result Standing Fault
 behind f = elim (blocks_fault f 0 (blocks f)) [ Some x ↦ Err x | None ↦ Ok (standing f (blocks f)) ]
 
 -- the counts are those that D tells

@@ -4,6 +4,7 @@ pub mod Records
 pub mod Layout
 pub mod Owners
 pub mod Files
+pub mod Kinds
 pub mod Blocks
 pub mod Widths
 pub mod Writing

@@ -1,10 +1,12 @@
 //! What stands before a block of a file.
 
+use crate::kind::Kind;
+
 /// What stands before a block: the block right before it, and all of the file's earlier ones counted.
 #[derive(Clone, Copy)]
 pub(crate) struct Before {
-    /// The letter of the block right before, if there is one.
-    pub(crate) kind: Option<u8>,
+    /// The kind of the block right before, if there is one.
+    pub(crate) kind: Option<Kind>,
     /// The number in the block right before.
     pub(crate) number: u32,
     /// How many participants and Resources were read.

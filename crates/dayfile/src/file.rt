@@ -1,5 +1,6 @@
 //! Admitting a file: the rules for its length, its blocks in their order, and its counts.
-ghost use Rattle.std.specs.Prelude.{◌≡◌, ℕ, ◌+◌, ◌-◌, ◌*◌, ◌/◌, ◌%◌, ◌^◌, ◌<◌, ◌≤◌, ◌++◌, length, IfOk, Some, None, MatchResult};
+ghost use Rattle.std.specs.Prelude.{◌≡◌, ℕ, ◌+◌, ◌-◌, ◌*◌, ◌/◌, ◌%◌, ◌^◌, ◌<◌, ◌≤◌, ◌++◌, length, IfOk, Ok, Err, MatchResult};
+ghost use Rattle.dayfile.specs.Kinds.{told};
 ghost use Rattle.dayfile.specs.Blocks.{Shows, shown};
 ghost use Rattle.dayfile.specs.Records.{record_of, encode};
 ghost use Rattle.dayfile.specs.Files.{verdict, answer, block, blocks, kind, counted, end_fault, standing, behind, lone_fault};
@@ -48,12 +49,12 @@ fn judge_file(file: &[u8]) -> Result<(), Fault>
 /// The first fault of a file's blocks, or what stands behind them.
 fn judge_blocks(file: &[u8]) -> Result<Before, Fault>
     requires { length file.now ≤ 65536 }
-    ensures { result ≡ behind file.now }
+    ensures { MatchResult result (λ before. behind file.now ≡ Ok (told before)) (λ fault. behind file.now ≡ Err fault) }
 {
     let mut before = Before::nothing();
     for (k, block) in file.as_chunks::<BLOCK>().0.iter().enumerate() {
-        before.judge(block, k)?;
-        before.note(block);
+        let kind = before.judge(block, k)?;
+        before.note(kind, block);
     }
     Ok(before)
 }

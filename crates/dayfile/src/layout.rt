@@ -1,12 +1,14 @@
 //! The fields of each kind of block: one table a kind, and one check over it.
-ghost use Rattle.std.specs.Prelude.{◌≡◌, ◌+◌, ◌*◌, ◌^◌, ◌<◌, ◌≤◌, true, not, length, take, is_some, Decides, sum};
+ghost use Rattle.std.specs.Prelude.{◌≡◌, ◌+◌, ◌*◌, ◌^◌, ◌<◌, ◌≤◌, ◌⊎◌, ℕ, Bool, true, not, length, take, is_some, Decides, sum};
 ghost use Rattle.std.specs.List.{AllByRecursion};
 ghost use Rattle.dayfile.specs.declared.layout.Limits.TheVariants.{Whole, Signed};
 ghost use Rattle.dayfile.specs.Bytes.{value, weighed};
+ghost use Rattle.dayfile.specs.Kinds.{letter};
 ghost use Rattle.dayfile.specs.Layout.{allows, entry_fault, first_fault, earlier, sized, all_sized, table_for, Wide};
 
 use crate::bytes::{byte_at, half_at, word_at, word_inside};
 use crate::file::BLOCK;
+use crate::kind::Kind;
 
 /// What a field may hold.
 #[derive(Clone, Copy)]
@@ -359,16 +361,16 @@ static REAL_TIME: [Entry; 9] = [
     },
 ];
 
-/// The table of a kind of block, by its letter.
-pub(crate) fn table_for(kind: u8) -> &'static [Entry]
-    ensures table { result.now ≡ table_for kind }
+/// The table of a kind of block.
+pub(crate) fn table_for(kind: Kind) -> &'static [Entry]
+    ensures table { result.now ≡ table_for (letter kind) }
     ensures sized { all_sized result.now ≡ true }
 {
     match kind {
-        b'D' => &DAY,
-        b'P' => &PARTICIPANT,
-        b'G' => &RESOURCE,
-        _ => &REAL_TIME,
+        Kind::Day => &DAY,
+        Kind::Participant => &PARTICIPANT,
+        Kind::Resource => &RESOURCE,
+        Kind::RealTime => &REAL_TIME,
     }
 }
 
@@ -387,7 +389,7 @@ impl Limits {
 
 /// The number in one, two or four bytes, the lowest byte first.
 fn number_at(block: &[u8], at: usize, width: usize) -> u32
-    requires { (at < 2 ^ 16) × (Wide width) }
+    requires { Wide width }
     ensures { result ≡ value at width block.now }
 {
     match width {
@@ -397,23 +399,34 @@ fn number_at(block: &[u8], at: usize, width: usize) -> u32
     }
 }
 
+/// The number in one or four bytes, of which none is past the end.
+fn number_inside<const W: usize>(block: &[u8], at: usize) -> u32
+    requires { ((W ≡ 1) ⊎ (W ≡ 4)) × (at + W ≤ length block.now) }
+    ensures { result ≡ value at W block.now }
+{
+    if W == 1 {
+        block[at] as u32
+    } else {
+        word_inside(block, at)
+    }
+}
+
 impl Entry {
     /// Where its first faulty field starts.
     fn fault(&self, block: &[u8]) -> Option<usize>
         requires { sized self.now ≡ true }
         ensures { result ≡ entry_fault self.now block.now }
     {
-        let mut at = self.start;
-        for _i in 0..self.count {
+        for i in 0..self.count {
+            let at = self.start + i * self.stride;
             if !self.limits.allow(number_at(block, at, self.width)) {
                 return Some(at);
             }
-            at += self.stride;
         }
         None
     }
 
-    /// Whether no field is faulty. It looks at every field, since a loop with no way out before its end is the faster one.
+    /// Whether no field is faulty.
     fn holds(&self, block: &[u8]) -> bool
         requires { sized self.now ≡ true }
         ensures { result ≡ not (is_some (entry_fault self.now block.now)) }
@@ -424,54 +437,32 @@ impl Entry {
         }
         match (self.limits, self.width) {
             (Limits::Unnamed, _) if self.stride == 1 => all_zero(&block[self.start..end]),
-            (Limits::Whole { least, most }, 4) => self.words_between(block, least, most),
-            (Limits::Signed { most }, 4) => self.signed_between(block, most),
-            (Limits::Whole { least, most }, 1) => self.bytes_between(block, least, most),
+            (Limits::Whole { least, most }, 4) => {
+                self.all_pass::<4, _>(block, |n| (least <= n) & (n <= most))
+            }
+            (Limits::Signed { most }, 4) => {
+                self.all_pass::<4, _>(block, |n| (n <= most) | (n as u64 + most as u64 >= 4_294_967_296))
+            }
+            (Limits::Whole { least, most }, 1) => {
+                self.all_pass::<1, _>(block, |n| (least <= n) & (n <= most))
+            }
             _ => self.fault(block).is_none(),
         }
     }
 
-    /// Whether each of its four-byte fields is from `least` to `most`.
-    fn words_between(&self, block: &[u8], least: u32, most: u32) -> bool
-        requires { (sized self.now ≡ true) × ((self.now.start + self.now.count * self.now.stride ≤ length block.now) × ((self.now.width ≡ 4) × (self.now.limits ≡ Whole least most))) }
+    /// Whether each of its fields, of `W` bytes, passes a test, which says what the limits allow.
+    /// It looks at every field, since a loop with no way out before its end is the faster one.
+    fn all_pass<const W: usize, F: Fn(u32) -> bool>(&self, block: &[u8], passes: F) -> bool
+        requires sized { sized self.now ≡ true }
+        requires inside { self.now.start + self.now.count * self.now.stride ≤ length block.now }
+        requires width { (self.now.width ≡ W) × ((W ≡ 1) ⊎ (W ≡ 4)) }
+        requires may_be_asked { (n : ℕ) → n < 2 ^ 32 → F.pre passes n }
+        requires says_the_limits { (n : ℕ) (yes : Bool) → n < 2 ^ 32 → F.post passes n yes → yes ≡ allows self.now.limits n }
         ensures { result ≡ not (is_some (entry_fault self.now block.now)) }
     {
         let mut bad = false;
-        let mut at = self.start;
-        for _i in 0..self.count {
-            let n = word_inside(block, at);
-            bad |= (n < least) | (n > most);
-            at += self.stride;
-        }
-        !bad
-    }
-
-    /// Whether each of its four-byte fields in two's complement is from -`most` to `most`.
-    fn signed_between(&self, block: &[u8], most: u32) -> bool
-        requires { (sized self.now ≡ true) × ((self.now.start + self.now.count * self.now.stride ≤ length block.now) × ((self.now.width ≡ 4) × (self.now.limits ≡ Signed most))) }
-        ensures { result ≡ not (is_some (entry_fault self.now block.now)) }
-    {
-        let mut bad = false;
-        let mut at = self.start;
-        for _i in 0..self.count {
-            let n = word_inside(block, at);
-            bad |= (n > most) & ((n as u64 + most as u64) < 4_294_967_296);
-            at += self.stride;
-        }
-        !bad
-    }
-
-    /// Whether each of its one-byte fields is from `least` to `most`.
-    fn bytes_between(&self, block: &[u8], least: u32, most: u32) -> bool
-        requires { (sized self.now ≡ true) × ((self.now.start + self.now.count * self.now.stride ≤ length block.now) × ((self.now.width ≡ 1) × (self.now.limits ≡ Whole least most))) }
-        ensures { result ≡ not (is_some (entry_fault self.now block.now)) }
-    {
-        let mut bad = false;
-        let mut at = self.start;
-        for _i in 0..self.count {
-            let n = block[at] as u32;
-            bad |= (n < least) | (n > most);
-            at += self.stride;
+        for i in 0..self.count {
+            bad |= !passes(number_inside::<W>(block, self.start + i * self.stride));
         }
         !bad
     }
@@ -493,9 +484,8 @@ pub(crate) fn earlier_of(a: Option<usize>, b: Option<usize>) -> Option<usize>
     ensures { result ≡ earlier a b }
 {
     match (a, b) {
-        (None, o) => o,
-        (Some(p), None) => Some(p),
         (Some(p), Some(q)) => Some(p.min(q)),
+        _ => a.or(b),
     }
 }
 

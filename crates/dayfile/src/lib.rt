@@ -10,6 +10,7 @@ mod day;
 mod fault;
 mod file;
 mod judge;
+mod kind;
 mod layout;
 mod owners;
 mod parts;

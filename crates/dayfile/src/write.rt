@@ -48,7 +48,7 @@ fn refuse(rec: &Record, block: &[u8; BLOCK], room: usize) -> Result<(), Fault>
     requires { take 508 block.now ≡ body rec.now }
     ensures value { result ≡ answer (unwritten rec.now room) }
 {
-    if let Some(byte) = field_fault(table_for(block[0]), block) {
+    if let Some(byte) = field_fault(table_for(rec.kind()), block) {
         return Err(Fault::RecordField { byte });
     }
     if let Record::Resource(g) = rec {

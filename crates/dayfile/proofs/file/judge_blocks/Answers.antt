@@ -1,9 +1,9 @@
-use Rattle.std.proofs.Common.{◌≡◌, ◌-◌, ◌<◌, [], get_or, Ok, sym, ap, ◌∙◌, arith}
+use Rattle.std.proofs.Common.{◌≡◌, ◌-◌, ◌<◌, [], get_or, None, Some, Ok, sym, ap, ◌∙◌, arith}
 use Rattle.std.proofs.lemmas.Result.{err_from_is_err_and}
-use Rattle.dayfile.specs.declared.before.Before.{Before}
-use Rattle.dayfile.specs.Files.{blocks_fault, block_fault, standing, block, blocks, after, answer}
+use Rattle.dayfile.specs.Kinds.{told}
+use Rattle.dayfile.specs.Files.{Standing, blocks_fault, block_fault, standing, block, blocks, after}
 use Rattle.dayfile.proofs.Chunks.{block_chunk}
-use Rattle.dayfile.proofs.Walks.{standing_first, standing_next, block_good, block_bad, blocks_end, behind_bad, behind_good, answer_ok, answer_err, after_participants, after_resources}
+use Rattle.dayfile.proofs.Walks.{standing_first, standing_next, block_good, block_bad, blocks_end, behind_bad, behind_good, after_participants, after_resources}
 use Rattle.dayfile.proofs.file.judge_blocks.Goals as goal
 
 pub loop-k-init : goal.loop-k-init
@@ -13,22 +13,21 @@ loop-k-init c =
     let s = c.nothing-before.ensures in (
       ap (blocks_fault f 0) e,
       s ∙ sym (standing_first f),
-      omega (arith, ap (λ (b : Before). b.participants) s),
-      omega (arith, ap (λ (b : Before). b.resources) s),
+      omega (arith, ap (λ (b : Standing). b.participants) s),
+      omega (arith, ap (λ (b : Standing). b.resources) s),
     )
 
-pub returns-in_err-judge : goal.returns-in_err-judge
-returns-in_err-judge c =
+pub returns-in_err-kind : goal.returns-in_err-kind
+returns-in_err-kind c =
     let f = c.args.file.now in
     let k = c.loop-k.k in
     let l : c.loop-k.k < blocks c.args.file.now = omega (arith, c.as_chunks.ensures.front_len, c.loop-k-test.true) in
     let b = block_chunk f c.as_chunks.result.0.now k c.as_chunks.ensures.front l in
-    let a = ap (λ b. answer (block_fault b k (block f k))) (sym c.loop-k.invariant.1)
-    ∙ ap (λ b. answer (block_fault c.loop-k.before k b)) (sym b)
-    ∙ sym c.judge.ensures ∙ c.in_err-judge.was in
-    let e = block_bad f k (blocks f) l c.in_err-judge.field-0.0 (answer_err _ _ a) in
+    let x = c.in_err-kind.field-0.0 in
+    let a : block_fault (standing c.args.file.now c.loop-k.k) c.loop-k.k (block c.args.file.now c.loop-k.k) ≡ Some c.in_err-kind.field-0.0
+    = ap (λ s. block_fault s k (block f k)) (sym c.loop-k.invariant.1) ∙ ap (block_fault (told c.loop-k.before) k) (sym b) ∙ c.in_err-kind.ensures in
     let p = err_from_is_err_and c.from_residual.result c.from_residual.ensures.1 in
-    rw (p.1, p.2) (sym (behind_bad f c.in_err-judge.field-0.0 (sym c.loop-k.invariant.0 ∙ e)))
+    rw (p.1, p.2) (behind_bad f x (sym c.loop-k.invariant.0 ∙ block_bad f k (blocks f) l x a))
 
 pub loop-k-preserved : goal.loop-k-preserved
 loop-k-preserved c =
@@ -36,14 +35,13 @@ loop-k-preserved c =
     let k = c.loop-k.k in
     let l : c.loop-k.k < blocks c.args.file.now = omega (arith, c.as_chunks.ensures.front_len, c.loop-k-test.true) in
     let b = block_chunk f c.as_chunks.result.0.now k c.as_chunks.ensures.front l in
-    let a = ap (λ b. answer (block_fault b k (block f k))) (sym c.loop-k.invariant.1)
-    ∙ ap (λ b. answer (block_fault c.loop-k.before k b)) (sym b)
-    ∙ sym c.judge.ensures ∙ c.in_ok-judge.was in
+    let a : block_fault (standing c.args.file.now c.loop-k.k) c.loop-k.k (block c.args.file.now c.loop-k.k) ≡ None
+    = ap (λ s. block_fault s k (block f k)) (sym c.loop-k.invariant.1) ∙ ap (block_fault (told c.loop-k.before) k) (sym b) ∙ c.in_ok-kind.ensures.0 in
     let n = c.note.ensures in (
-      sym (block_good f k (blocks f) l (answer_ok _ a)) ∙ c.loop-k.invariant.0,
-      n ∙ ap (after c.loop-k.before) b ∙ ap (λ b. after b (block f k)) c.loop-k.invariant.1 ∙ sym (standing_next f k),
-      omega (arith, ap (λ (b : Before). b.participants) n, after_participants c.loop-k.before (get_or c.as_chunks.result.0.now c.loop-k.k [])),
-      omega (arith, ap (λ (b : Before). b.resources) n, after_resources c.loop-k.before (get_or c.as_chunks.result.0.now c.loop-k.k [])),
+      sym (block_good f k (blocks f) l a) ∙ c.loop-k.invariant.0,
+      n ∙ ap (after (told c.loop-k.before)) b ∙ ap (λ s. after s (block f k)) c.loop-k.invariant.1 ∙ sym (standing_next f k),
+      omega (arith, ap (λ (s : Standing). s.participants) n, after_participants (told c.loop-k.before) (get_or c.as_chunks.result.0.now c.loop-k.k [])),
+      omega (arith, ap (λ (s : Standing). s.resources) n, after_resources (told c.loop-k.before) (get_or c.as_chunks.result.0.now c.loop-k.k [])),
     )
 
 pub returns : goal.returns
@@ -51,4 +49,5 @@ returns c =
     let f = c.args.file.now in
     let k = c.loop-k.k in
     let e : blocks c.args.file.now ≡ c.loop-k.k = omega (arith, c.as_chunks.ensures.front_len) in
-    ap Ok (c.loop-k.invariant.1 ∙ ap (standing f) (sym e)) ∙ sym (behind_good f (sym c.loop-k.invariant.0 ∙ blocks_end f k (blocks f - k) (omega (arith, e))))
+    behind_good f (sym c.loop-k.invariant.0 ∙ blocks_end f k (blocks f - k) (omega (arith, e)))
+    ∙ ap Ok (ap (standing f) e ∙ sym c.loop-k.invariant.1)

@@ -1,15 +1,16 @@
 use Rattle.std.proofs.Common.{true, eqb, get_or, drop, sym, ap, ◌∙◌, arith}
 use Rattle.std.proofs.lemmas.List.{get_or-take, get_or-drop}
 use Rattle.std.proofs.lemmas.Bool.{cond-true, eq-eqb}
+use Rattle.dayfile.specs.Kinds.{letter}
 use Rattle.dayfile.specs.Owners.{owners_kept}
 use Rattle.dayfile.specs.Records.{resource_of}
 use Rattle.dayfile.proofs.judge.is_owned.Goals as goal
 
-pub returns : goal.returns
-returns c =
+pub returns-in-Resource : goal.returns-in-Resource
+returns-in-Resource c =
     let b = c.args.block.now in
     let n = get_or-take 8 (drop 112 b) 1 0 (omega arith) ∙ get_or-drop 112 b 1 0 in
     c.kept.ensures
     ∙ ap (owners_kept c.args.limit (get_or b 113 0)) c.read_parts.ensures
     ∙ ap (λ k. owners_kept c.args.limit k (resource_of b).owners) (sym n)
-    ∙ sym (cond-true (eqb (get_or b 0 0) 71) (owners_kept c.args.limit (resource_of b).owner_count (resource_of b).owners) true (eq-eqb (get_or b 0 0) 71 c.if-block-ne71.false))
+    ∙ sym (cond-true (eqb (get_or b 0 0) 71) (owners_kept c.args.limit (resource_of b).owner_count (resource_of b).owners) true (eq-eqb (get_or b 0 0) 71 (sym c.requires ∙ ap letter c.in-Resource.is)))
