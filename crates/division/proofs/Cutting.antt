@@ -1,26 +1,20 @@
 -- The cut-off over a list of keys.
-use Rattle.std.proofs.Common.{◌≡◌, ℕ, suc, ◌+◌, ◌*◌, ◌<◌, ◌≤◌, leb, List, length, get_or, take, set, sum, sym, ap, ◌∙◌, subst, inl, inr, arith}
+use Rattle.std.proofs.Common.{◌≡◌, ℕ, suc, ◌+◌, ◌*◌, ◌<◌, ◌≤◌, leb, List, length, get_or, set, sum, sym, ap, ◌∙◌, subst, inl, inr, arith}
 use Rattle.std.proofs.lemmas.List.FromFn.{length-map-range_with_len, get_or-map-range_with_len, fill_by_all}
 use Rattle.std.proofs.lemmas.List.Edits.{fill_by_more}
-use Rattle.std.proofs.lemmas.List.{take_all, get_or-take, length-take-le}
-use Rattle.std.proofs.lemmas.List.Sums.{sum_by_more}
+use Rattle.std.proofs.lemmas.List.{take_all, length-map, get_or-map}
 use Rattle.std.proofs.lemmas.Bool.{cases_lt, cases_eq}
 use Rattle.division.specs.Division.{whole_part, remainder, left_over, share, divided}
-use Rattle.division.specs.Cuts.{key, Distinct, tick, reached, topped}
+use Rattle.division.specs.Cuts.{key, Distinct, tick, reached, part, noted, wholes, keys, topped}
+use Rattle.division.specs.declared.few.Part.{Part}
 use Rattle.division.proofs.Tallies.{front_tally, tally_same}
-use Rattle.division.proofs.Keys.{reach, reach_none, reach_all, reach_step, reach_less, keys_distinct}
-use Rattle.division.proofs.Parts.{share_cut, key_below, left_few}
-
--- a loop that counts the keys that reach a bound
-pub reached_more : (b : ℕ) (ks : List ℕ) (i : ℕ) → i < length ks → reached b (take (i + 1) ks) ≡ reached b (take i ks) + tick (leb b (get_or ks i 0))
-reached_more b ks i l = sum_by_more (λ k. tick (leb b k)) ks i 0 l
-
-pub reached_all : (b : ℕ) (ks : List ℕ) (i : ℕ) → length ks ≤ i → reached b (take i ks) ≡ reached b ks
-reached_all b ks i l = ap (reached b) (take_all i ks l)
+use mir.Val.{bool_byte}
+use Rattle.division.proofs.Keys.{byte_tick, reach, reach_none, reach_all, reach_step, reach_less, keys_distinct}
+use Rattle.division.proofs.Parts.{share_cut, key_below}
 
 pub reached_reach : (b : ℕ) (ks : List ℕ) → reached b ks ≡ reach (λ i. get_or ks i 0) b (length ks)
 reached_reach b ks =
-    sym (reached_all b ks (length ks) (omega arith)) ∙ front_tally (λ k. tick (leb b k)) ks 0 (length ks) (omega arith)
+    ap (reached b) (sym (take_all (length ks) ks (omega arith))) ∙ front_tally (λ k. tick (leb b k)) ks 0 (length ks) (omega arith)
 
 pub reached_none : (b : ℕ) (ks : List ℕ) → ((i : ℕ) → i < length ks → get_or ks i 0 < b) → reached b ks ≡ 0
 reached_none b ks h = reached_reach b ks ∙ reach_none (λ i. get_or ks i 0) b (length ks) h
@@ -46,58 +40,74 @@ room_between ks l low high d more fewer =
       | inr past ↦ absurd (omega (arith, reach_less k high low (length ks) past))
     ]
 
--- a loop that writes v, which is f i, at each place i
-pub filled_more : (f : ℕ → ℕ) (xs : List ℕ) (i v : ℕ) → i < length xs → v ≡ f i → ((k : ℕ) → k < i → get_or xs k 0 ≡ f k) → (k : ℕ) → k < i + 1 → get_or (set xs i v) k 0 ≡ f k
-filled_more f xs i v l e h = subst (λ y. (k : ℕ) → k < i + 1 → get_or (set xs i y) k 0 ≡ f k) (sym e) (fill_by_more f xs i 0 l h)
+-- what was noted of a place
+pub length_noted : (c : ℕ) (ws : List ℕ) → length (noted c ws) ≡ length ws
+unfolding noted
+length_noted c ws = length-map-range_with_len (part c ws) 0 (length ws)
 
--- the front of a list whose first n numbers are known
-pub front_at : (k : ℕ → ℕ) (xs : List ℕ) (n m : ℕ) → n ≤ length xs → m ≡ n → ((i : ℕ) → i < n → get_or xs i 0 ≡ k i) → (i : ℕ) → i < length (take m xs) → get_or (take m xs) i 0 ≡ k i
-front_at k xs n m l e h i b =
-    let s : length (take m xs) ≡ m = length-take-le m xs (omega arith) in
-    get_or-take m xs i 0 (omega arith) ∙ h i (omega arith)
+-- a loop that notes the parts of each place
+pub noted_more : (c : ℕ) (ws : List ℕ) (ps : List Part) (i : ℕ) (d : Part) (q k : ℕ) → i < length ps → q ≡ whole_part c ws i → k ≡ key 64 (remainder c ws) i
+    → ((j : ℕ) → j < i → get_or ps j d ≡ part c ws j) → (j : ℕ) → j < i + 1 → get_or (set ps i (record { whole = q; key = k })) j d ≡ part c ws j
+noted_more c ws ps i d q k l e f h =
+    let s : ◌≡◌ {A = Part} (part c ws i) (record { whole = q; key = k }) =
+    sym (ap (λ x. record { whole = x; key = k }) e ∙ ap (λ x. record { whole = whole_part c ws i; key = x }) f) in
+    subst (λ (p : Part). (j : ℕ) → j < i + 1 → get_or (set ps i p) j d ≡ part c ws j) s (fill_by_more (part c ws) ps i d l h)
+
+pub noted_all : (c : ℕ) (ws : List ℕ) (ps : List Part) (d : Part) → length ps ≡ length ws → ((j : ℕ) → j < length ws → get_or ps j d ≡ part c ws j) → ps ≡ noted c ws
+unfolding noted
+noted_all c ws ps d l h = fill_by_all (part c ws) ps (length ws) d l h
+
+pub noted_at : (c : ℕ) (ws : List ℕ) (i : ℕ) (d : Part) → i < length ws → get_or (noted c ws) i d ≡ part c ws i
+unfolding noted
+noted_at c ws i d l = get_or-map-range_with_len (part c ws) 0 (length ws) i i d l (omega arith)
+
+pub whole_noted : (c : ℕ) (ws : List ℕ) (i : ℕ) → i < length ws → get_or (wholes (noted c ws)) i 0 ≡ whole_part c ws i
+whole_noted c ws i l =
+    get_or-map (λ p. p.whole) (noted c ws) i (part c ws i) 0 (omega (arith, length_noted c ws)) ∙ ap (λ p. p.whole) (noted_at c ws i (part c ws i) l)
+
+pub key_noted : (c : ℕ) (ws : List ℕ) (i : ℕ) → i < length ws → get_or (keys (noted c ws)) i 0 ≡ key 64 (remainder c ws) i
+key_noted c ws i l =
+    get_or-map (λ p. p.key) (noted c ws) i (part c ws i) 0 (omega (arith, length_noted c ws)) ∙ ap (λ p. p.key) (noted_at c ws i (part c ws i) l)
+
+pub length_keys : (c : ℕ) (ws : List ℕ) → length (keys (noted c ws)) ≡ length ws
+length_keys c ws = length-map (noted c ws) (λ p. p.key) ∙ length_noted c ws
+
+-- as many keys reach a bound as were noted that do
+pub reached_noted : (c b : ℕ) (ws : List ℕ) → reached b (keys (noted c ws)) ≡ reach (key 64 (remainder c ws)) b (length ws)
+reached_noted c b ws =
+    let ks = keys (noted c ws) in
+    reached_reach b ks ∙ ap (reach (λ i. get_or ks i 0) b) (length_keys c ws)
+    ∙ tally_same (λ i. tick (leb b (get_or ks i 0))) (λ i. tick (leb b (key 64 (remainder c ws) i))) (length ws) (λ i l. ap (λ k. tick (leb b k)) (key_noted c ws i l))
 
 -- what a list of shares by a cut has at a place
-pub length_topped : (b : ℕ) (wholes keys : List ℕ) (n : ℕ) → length (topped b wholes keys n) ≡ n
+pub length_topped : (b : ℕ) (ps : List Part) → length (topped b ps) ≡ length ps
 unfolding topped
-length_topped b wholes keys n = length-map-range_with_len (λ i. get_or wholes i 0 + tick (leb b (get_or keys i 0))) 0 n
+length_topped b ps = length-map ps (λ p. p.whole + tick (leb b p.key))
 
-pub get_or_topped : (b : ℕ) (wholes keys : List ℕ) (n i : ℕ) → i < n → get_or (topped b wholes keys n) i 0 ≡ get_or wholes i 0 + tick (leb b (get_or keys i 0))
+pub topped_at : (b : ℕ) (ps : List Part) (i : ℕ) (d : Part) (one : ℕ) → i < length ps → one ≡ bool_byte (leb b (get_or ps i d).key)
+    → (get_or ps i d).whole + one ≡ get_or (topped b ps) i 0
 unfolding topped
-get_or_topped b wholes keys n i l = get_or-map-range_with_len (λ j. get_or wholes j 0 + tick (leb b (get_or keys j 0))) 0 n i i 0 l (omega arith)
+topped_at b ps i d one l e =
+    let p = get_or ps i d in
+    ap (λ x. p.whole + x) (e ∙ byte_tick (leb b p.key)) ∙ sym (get_or-map (λ q. q.whole + tick (leb b q.key)) ps i d 0 l)
 
 -- THE SHARES BY A CUT are those of the division
-pub topped_divided : (c b n m : ℕ) (ws wholes keys : List ℕ) → n ≡ length ws → n ≤ 64 → m ≡ n → n ≤ length keys
-    → ((k : ℕ) → k < n → get_or wholes k 0 ≡ whole_part c ws k) → ((k : ℕ) → k < n → get_or keys k 0 ≡ key 64 (remainder c ws) k)
-    → reached b (take m keys) ≡ left_over c ws → topped b wholes keys n ≡ divided c ws
-unfolding divided
-topped_divided c b n m ws wholes keys e few s room hw hk r =
-    let k = key 64 (remainder c ws) in
-    let long : length (take m keys) ≡ length ws = length-take-le m keys (omega arith) ∙ s ∙ e in
-    let cut : reach k b (length ws) ≡ left_over c ws =
-    tally_same (λ i. tick (leb b (k i))) (λ i. tick (leb b (get_or (take m keys) i 0))) (length ws)
-    (λ i l. ap (λ x. tick (leb b x)) (sym (front_at k keys n m room s hk i (omega arith))))
-    ∙ ap (reach (λ i. get_or (take m keys) i 0) b) (sym long) ∙ sym (reached_reach b (take m keys)) ∙ r in
-    fill_by_all (share c ws) (topped b wholes keys n) (length ws) 0 (length_topped b wholes keys n ∙ e)
+pub topped_divided : (c b : ℕ) (ws : List ℕ) → length ws ≤ 64 → reached b (keys (noted c ws)) ≡ left_over c ws → topped b (noted c ws) ≡ divided c ws
+unfolding topped divided
+topped_divided c b ws few r =
+    let top : Part → ℕ = λ p. p.whole + tick (leb b p.key) in
+    fill_by_all (share c ws) (topped b (noted c ws)) (length ws) 0 (length-map (noted c ws) top ∙ length_noted c ws)
     (λ i l.
-    let i' : i < n = omega arith in
-    get_or_topped b wholes keys n i i' ∙ ap (λ x. x + tick (leb b (get_or keys i 0))) (hw i i') ∙ ap (λ x. whole_part c ws i + tick (leb b x)) (hk i i')
-    ∙ sym (share_cut 64 c ws b i (omega arith) l cut))
+    get_or-map top (noted c ws) i (part c ws i) 0 (omega (arith, length_noted c ws)) ∙ ap top (noted_at c ws i (part c ws i) l)
+    ∙ sym (share_cut 64 c ws b i few l (sym (reached_noted c b ws) ∙ r)))
 
--- the first keys are different, and below 64 times the weights
-pub front_distinct : (c n m : ℕ) (ws keys : List ℕ) → n ≡ length ws → n ≤ 64 → m ≡ n → n ≤ length keys
-    → ((k : ℕ) → k < n → get_or keys k 0 ≡ key 64 (remainder c ws) k) → Distinct (λ i. get_or (take m keys) i 0) (length (take m keys))
-front_distinct c n m ws keys e few s room h i j li lj t =
-    let k = key 64 (remainder c ws) in
-    let long : length (take m keys) ≡ m = length-take-le m keys (omega arith) in
-    keys_distinct 64 n (remainder c ws) few i j (omega arith) (omega arith)
-    (sym (front_at k keys n m room s h i li) ∙ t ∙ front_at k keys n m room s h j lj)
+-- the keys are different, and below 64 times the weights
+pub noted_distinct : (c : ℕ) (ws : List ℕ) → length ws ≤ 64 → Distinct (λ i. get_or (keys (noted c ws)) i 0) (length (keys (noted c ws)))
+noted_distinct c ws few i j li lj t =
+    let li' : i < length ws = omega (arith, length_keys c ws) in
+    let lj' : j < length ws = omega (arith, length_keys c ws) in
+    keys_distinct 64 (length ws) (remainder c ws) few i j li' lj' (sym (key_noted c ws i li') ∙ t ∙ key_noted c ws j lj')
 
-pub front_below : (c n m b : ℕ) (ws keys : List ℕ) → n ≡ length ws → n ≤ 64 → m ≡ n → n ≤ length keys
-    → ((k : ℕ) → k < n → get_or keys k 0 ≡ key 64 (remainder c ws) k) → 0 < sum ws → b ≡ 64 * sum ws
-    → (i : ℕ) → i < length (take m keys) → get_or (take m keys) i 0 < b
-front_below c n m b ws keys e few s room h some f i l =
-    let long : length (take m keys) ≡ m = length-take-le m keys (omega arith) in
-    omega (arith, front_at (key 64 (remainder c ws)) keys n m room s h i l, key_below 64 c ws i (omega arith) some)
-
-pub front_few : (c n m : ℕ) (ws keys : List ℕ) → n ≡ length ws → m ≡ n → n ≤ length keys → 0 < sum ws → left_over c ws < length (take m keys)
-front_few c n m ws keys e s room some = omega (arith, length-take-le m keys (omega arith), left_few c ws some)
+pub noted_below : (c : ℕ) (ws : List ℕ) → length ws ≤ 64 → 0 < sum ws → (i : ℕ) → i < length (keys (noted c ws)) → get_or (keys (noted c ws)) i 0 < 64 * sum ws
+noted_below c ws few some i l =
+    let l' : i < length ws = omega (arith, length_keys c ws) in omega (arith, key_noted c ws i l', key_below 64 c ws i (omega arith) some)

@@ -1,8 +1,8 @@
 -- The weights of records: their sum, and what a loop over the records has read of them.
-use Rattle.std.proofs.Common.{◌≡◌, ℕ, ◌+◌, ◌*◌, ◌/◌, ◌%◌, ◌<◌, ◌≤◌, Bool, ◌&&◌, ◌||◌, eqb, ltb, List, map, length, get_or, take, sum_by, sum, sym, ap, ◌∙◌, arith}
+use Rattle.std.proofs.Common.{◌≡◌, ℕ, ◌+◌, ◌*◌, ◌/◌, ◌%◌, ◌<◌, ◌≤◌, Bool, ◌&&◌, ◌||◌, eqb, ltb, List, [], ◌∷◌, map, length, get_or, take, sum_by, sum, sym, ap, ◌∙◌, arith}
 use mir.Val.{bool_byte}
 use Rattle.std.proofs.lemmas.List.{get_or-map, take_all}
-use Rattle.std.proofs.lemmas.List.Sums.{sum-map, sum_by_more}
+use Rattle.std.proofs.lemmas.List.Sums.{sum-map, sum_by-cons}
 use Rattle.division.specs.Records.{Lawful, handed}
 use Rattle.division.specs.Division.{whole_part, remainder, left_over, sooner, rank, share, divided}
 use Rattle.division.proofs.Tallies.{tally, sum_tally, tally_part, tally_front, tally_more}
@@ -15,14 +15,6 @@ use Rattle.division.proofs.Handing.{handed_keeps}
 -- the weight of a record that was read
 pub weight_at : {S : Type 0} (weighs : S → ℕ) (xs : List S) (i : ℕ) (x : S) → i < length xs → x ≡ get_or xs i x → get_or (map weighs xs) i 0 ≡ weighs x
 weight_at weighs xs i x l e = get_or-map weighs xs i x 0 l ∙ ap weighs (sym e)
-
--- one weight more
-pub weight_more : {S : Type 0} (weighs : S → ℕ) (xs : List S) (i : ℕ) (x : S) → i < length xs → x ≡ get_or xs i x
-    → sum_by weighs (take (i + 1) xs) ≡ sum_by weighs (take i xs) + weighs x
-weight_more weighs xs i x l e = sum_by_more weighs xs i x l ∙ ap (λ y. sum_by weighs (take i xs) + weighs y) (sym e)
-
-pub weight_all : {S : Type 0} (weighs : S → ℕ) (xs : List S) (i : ℕ) → length xs ≤ i → sum_by weighs (take i xs) ≡ sum (map weighs xs)
-weight_all weighs xs i l = ap (sum_by weighs) (take_all i xs l) ∙ sym (sum-map weighs xs)
 
 -- no weight is more than all
 pub weight_within : (ws : List ℕ) (i : ℕ) → i < length ws → get_or ws i 0 ≤ sum ws
@@ -84,3 +76,11 @@ rank_all c ws i j before e h = h ∙ ap (tally (λ k. tick (sooner (remainder c 
 -- a share worked out over weights that are as they were is the division's
 pub share_kept : (c : ℕ) (ws us : List ℕ) (i s : ℕ) → us ≡ ws → i < length ws → s ≡ share c us i → s ≡ get_or (divided c ws) i 0
 share_kept c ws us i s k l e = e ∙ ap (λ vs. share c vs i) k ∙ sym (get_or_divided c ws i l)
+
+-- no record weighs more than 100,000,000
+pub weights_light : {S : Type 0} (weighs : S → ℕ) → ((x : S) → weighs x ≤ 100000000) → (xs : List S) → sum (map weighs xs) ≤ length xs * 100000000
+weights_light weighs light xs = omega (arith, sum-map weighs xs, by xs)
+  where
+    by : (ys : List _) → sum_by weighs ys ≤ length ys * 100000000
+    by [] = omega arith
+    by (y ∷ ys) = omega (arith, sum_by-cons weighs y ys, light y, by ys)

@@ -1,6 +1,7 @@
 -- Remainders ranked by keys, and the bound that just so many keys reach.
-use Rattle.std.specs.Prelude.{◌≡◌, ℕ, ◌+◌, ◌-◌, ◌*◌, ◌<◌, Bool, cond, leb, List, map, count_by, nat_le, slice_index}
-use Rattle.std.specs.List.{range_with_len}
+use Rattle.std.specs.Prelude.{◌≡◌, ℕ, ◌+◌, ◌-◌, ◌*◌, ◌<◌, Bool, cond, leb, List, map, count_by, nat_le}
+use Rattle.division.specs.declared.few.Part.{Part}
+use Rattle.division.specs.Division.{places, whole_part, remainder}
 
 -- a remainder and its place in one number: the larger remainder is the larger, then the earlier place
 abbrev pub key : ℕ → (ℕ → ℕ) → ℕ → ℕ
@@ -18,6 +19,19 @@ tick t = cond t 1 0
 abbrev pub reached : ℕ → List ℕ → ℕ
 reached bound keys = count_by (leb bound) keys
 
--- the whole parts of the first n places, one cent more where the key reaches a bound
-unfoldable pub topped : ℕ → List ℕ → List ℕ → ℕ → List ℕ
-topped bound wholes keys n = map (λ i. slice_index wholes i + tick (nat_le bound (slice_index keys i))) (range_with_len 0 n)
+-- what is noted of a place: the whole part, and the key of the remainder
+abbrev pub part : ℕ → List ℕ → ℕ → Part
+part cents weights i = record { whole = whole_part cents weights i; key = key 64 (remainder cents weights) i }
+
+unfoldable pub noted : ℕ → List ℕ → List Part
+noted cents weights = map (part cents weights) (places weights)
+
+abbrev pub wholes : List Part → List ℕ
+wholes parts = map (λ p. p.whole) parts
+
+abbrev pub keys : List Part → List ℕ
+keys parts = map (λ p. p.key) parts
+
+-- the whole parts, one cent more where the key reaches a bound
+unfoldable pub topped : ℕ → List Part → List ℕ
+topped bound parts = map (λ p. p.whole + tick (nat_le bound p.key)) parts

@@ -9,11 +9,10 @@ use crate::weighted::Weighted;
 fn total_weight<T: Weighted>(records: &[T]) -> u128
     ensures { result ≡ sum (map T.Weighted.weighs records.now) }
 {
-    let mut total = 0u128;
-    for record in records {
-        total += u128::from(record.weight());
-    }
-    total
+    records
+        .iter()
+        .map(|record| u128::from(record.weight()))
+        .sum()
 }
 
 /// An exact share, times what all records weigh.

@@ -2,10 +2,9 @@ use Rattle.std.proofs.Common.{◌≡◌, ◌+◌, ◌-◌, ◌*◌, ◌/◌, ◌
 use Rattle.std.proofs.lemmas.Nat.{mul-le}
 use Rattle.std.proofs.lemmas.List.{length-map}
 use Rattle.division.specs.Division.{whole_part, remainder}
-use Rattle.division.specs.Cuts.{key}
 use Rattle.division.proofs.Tallies.{tally_more}
 use Rattle.division.proofs.Weights.{whole_at, remainder_at, wholes_more, left_all}
-use Rattle.division.proofs.Cutting.{filled_more}
+use Rattle.division.proofs.Cutting.{noted_more, noted_all}
 use Rattle.division.proofs.few.note_parts.Given as given
 use Rattle.division.proofs.few.note_parts.Goals as goal
 
@@ -41,16 +40,16 @@ loop-i-preserved g c =
     let cents = c.args.cents in
     let i = c.loop-i.i in (
       omega (arith, whole g c, overflow_sub-left g c, tally_more (whole_part cents ws) i),
-      filled_more (whole_part cents ws) c.loop-i.wholes i _ (omega (arith, c.requires.room)) (whole g c) c.loop-i.invariant.1,
-      filled_more (key 64 (remainder cents ws)) c.loop-i.keys i _ (omega (arith, c.requires.room)) (c.key_of.ensures ∙ ap (λ r. r * 64 + (63 - i)) (rest g c)) c.loop-i.invariant.2,
+      noted_more cents ws c.loop-i.parts i (record { whole = 0; key = 0 }) _ _ (omega (arith, c.requires.room)) (whole g c)
+          (c.key_of.ensures ∙ ap (λ r. r * 64 + (63 - i)) (rest g c)) c.loop-i.invariant.1,
     )
 
 pub returns : goal.returns
 returns g c =
     let xs = c.args.records.now in
     let ws = map g.T.Weighted.weighs xs in
+    let long = length-map xs g.T.Weighted.weighs in
     record {
-      left = left_all c.args.cents c.loop-i.left c.loop-i.i ws (omega (arith, length-map xs g.T.Weighted.weighs)) c.loop-i.invariant.0;
-      wholes = λ k l. c.loop-i.invariant.1 k (omega arith);
-      keys = λ k l. c.loop-i.invariant.2 k (omega arith);
+      left = left_all c.args.cents c.loop-i.left c.loop-i.i ws (omega (arith, long)) c.loop-i.invariant.0;
+      parts = noted_all c.args.cents ws c.loop-i.parts (record { whole = 0; key = 0 }) (omega (arith, long, c.requires.room)) (λ k l. c.loop-i.invariant.1 k (omega (arith, long)));
     }
