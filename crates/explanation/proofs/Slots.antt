@@ -1,5 +1,10 @@
 -- The owners of a block, slot by slot.
-use Rattle.std.proofs.Common.{◌≡◌, ℕ, zero, suc, ◌+◌, ◌*◌, ◌≤◌, List, [], ◌∷◌, ◌++◌, get_or, take, drop, sym, refl, ap, ◌∙◌, add-zero, arith}
+use Rattle.std.proofs.Common.{◌≡◌, ℕ, zero, suc, ◌+◌, ◌*◌, ◌<◌, ◌≤◌, List, [], ◌∷◌, get_or, map, take, drop, sym, refl, ap, ◌∙◌, subst, inl, inr, add-zero, arith}
+use Rattle.std.specs.List.{range_with_len}
+use Rattle.std.specs.Fn.{Called, Mut}
+use Rattle.std.specs.Array.{IsFromFnResult, IsFromFnResultFrom}
+use Rattle.std.proofs.lemmas.Bool.{cases_eq}
+use Rattle.std.proofs.lemmas.List.FromFn.{fill_by_all}
 use Rattle.std.proofs.lemmas.List.{drop-drop, drop-take, get_or-take, get_or-drop}
 use Rattle.dayfile.specs.declared.record.Owner.{Owner}
 use Rattle.dayfile.specs.Bytes.{value, each}
@@ -41,23 +46,23 @@ each_slot zero at b = refl
 each_slot (suc n) at b =
     ap (λ ys. owner_from (drop at b) ∷ each owner_from 6 n ys) (drop-drop 6 at b) ∙ ap (λ os. owner_from (drop at b) ∷ os) (each_slot n (at + 6) b)
 
-all : (b : List ℕ) → slots 8 120 b ≡ each owner_from 6 8 (part 120 48 b)
-all b = sym (whole 8 (drop 120 b) ∙ each_slot 8 120 b)
+pub eight : (b : List ℕ) → map (λ i. owner_from (drop (120 + 6 * i) b)) (range_with_len 0 8) ≡ each owner_from 6 8 (part 120 48 b)
+eight b = sym (whole 8 (drop 120 b) ∙ each_slot 8 120 b)
 
-pub eight : (b : List ℕ) (s t u v w x y z : Owner)
-    → s ≡ owner_from (drop 120 b) → t ≡ owner_from (drop 126 b) → u ≡ owner_from (drop 132 b) → v ≡ owner_from (drop 138 b)
-    → w ≡ owner_from (drop 144 b) → x ≡ owner_from (drop 150 b) → y ≡ owner_from (drop 156 b) → z ≡ owner_from (drop 162 b)
-    → (s ∷ t ∷ u ∷ v ∷ w ∷ x ∷ y ∷ z ∷ []) ≡ each owner_from 6 8 (part 120 48 b)
-eight b s t u v w x y z a c d e f g h i =
-    ap (λ o. o ∷ t ∷ u ∷ v ∷ w ∷ x ∷ y ∷ z ∷ []) a
-    ∙ ap (λ o. slots 1 120 b ++ (o ∷ u ∷ v ∷ w ∷ x ∷ y ∷ z ∷ [])) c
-    ∙ ap (λ o. slots 2 120 b ++ (o ∷ v ∷ w ∷ x ∷ y ∷ z ∷ [])) d
-    ∙ ap (λ o. slots 3 120 b ++ (o ∷ w ∷ x ∷ y ∷ z ∷ [])) e
-    ∙ ap (λ o. slots 4 120 b ++ (o ∷ x ∷ y ∷ z ∷ [])) f
-    ∙ ap (λ o. slots 5 120 b ++ (o ∷ y ∷ z ∷ [])) g
-    ∙ ap (λ o. slots 6 120 b ++ (o ∷ z ∷ [])) h
-    ∙ ap (λ o. slots 7 120 b ++ (o ∷ [])) i
-    ∙ all b
+-- calls that change nothing, of which each gives f of its index
+module _ {F B : Type 0} (g : Mut F (ℕ × Unit {0}) B) (calls : F) (f : ℕ → B) (d : B)
+    (one : (i : ℕ) (y : B) (q : F) → Called g calls (i, tt) y q → (y ≡ f i) × (q ≡ calls)) where
+  made_at : (ys : List B) (n i k : ℕ) → IsFromFnResultFrom g calls ys i n → i ≤ k → k < i + n → get_or ys k d ≡ f k
+  made_at ys zero i k m l h = absurd (omega arith)
+  made_at ys (suc n) i k m l h =
+      let s = one i m.1 m.0 m.3 in
+      elim (cases_eq k i) [
+        | inl e ↦ ap (λ j. get_or ys j d) e ∙ m.2.1 d ∙ s.0 ∙ ap f (sym e)
+        | inr ne ↦ made_at ys n (i + 1) k (subst (λ p. IsFromFnResultFrom g p ys (i + 1) n) s.1 m.4) (omega arith) (omega arith)
+      ]
+
+  pub made_by : (ys : List B) (n : ℕ) → IsFromFnResult g calls ys n → ys ≡ map f (range_with_len 0 n)
+  made_by ys n made = fill_by_all f ys n d made.long (λ k l. made_at ys n 0 k made.each (omega arith) (omega arith))
 
 -- the count of owners is byte 113
 pub count_there : (b : List ℕ) → get_or (part 112 8 b) 1 0 ≡ get_or b 113 0

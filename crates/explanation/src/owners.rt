@@ -5,6 +5,7 @@ ghost use Rattle.explanation.specs.Shares.{used_rule, sum_rule, unused_rule, own
 
 use crate::finding::OwnersRule;
 use dayfile::{Owner, half_at, word_at};
+use std::array;
 
 /// What all owners' parts add up to.
 const WHOLE: u64 = 1_000_000;
@@ -91,16 +92,7 @@ fn broken_by_unused(slots: &[Owner], used: usize) -> Option<OwnersRule>
 pub(crate) fn owners_of(block: &[u8]) -> [Owner; 8]
     ensures { result ≡ (resource_of block.now).owners }
 {
-    [
-        owner_at(block, 120),
-        owner_at(block, 126),
-        owner_at(block, 132),
-        owner_at(block, 138),
-        owner_at(block, 144),
-        owner_at(block, 150),
-        owner_at(block, 156),
-        owner_at(block, 162),
-    ]
+    array::from_fn(|slot| owner_at(block, 120 + 6 * slot))
 }
 
 /// The owner at a place of a block.

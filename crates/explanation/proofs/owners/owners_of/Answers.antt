@@ -1,10 +1,10 @@
-use Rattle.explanation.proofs.Slots.{eight}
+use Rattle.std.proofs.Common.{◌+◌, ◌*◌, drop, ◌∙◌, rules}
+use Rattle.dayfile.specs.Records.{owner_from}
+use Rattle.explanation.proofs.Rules.{no_owner}
+use Rattle.explanation.proofs.Slots.{eight, made_by}
 use Rattle.explanation.proofs.owners.owners_of.Goals as goal
 
 pub returns : goal.returns
 returns c =
-    eight c.args.block.now
-    c.owner_at.result c.owner_at-2.result c.owner_at-3.result c.owner_at-4.result
-    c.owner_at-5.result c.owner_at-6.result c.owner_at-7.result c.owner_at-8.result
-    c.owner_at.ensures c.owner_at-2.ensures c.owner_at-3.ensures c.owner_at-4.ensures
-    c.owner_at-5.ensures c.owner_at-6.ensures c.owner_at-7.ensures c.owner_at-8.ensures
+    made_by _ _ (λ i. owner_from (drop (120 + 6 * i) c.args.block.now)) no_owner (λ i y q k. search rules) c.from_fn.result 8 c.from_fn.ensures.items
+    ∙ eight c.args.block.now
