@@ -1,5 +1,5 @@
 -- The rule that the owners of a Resource break: the first slot that does, or the sum.
-use Rattle.std.specs.Prelude.{ℕ, ◌+◌, ◌-◌, cond, ◌&&◌, List, [], ◌∷◌, take, drop, Some, None, Option, ◌==◌, nat_le, nat_lt}
+use Rattle.std.specs.Prelude.{ℕ, ◌+◌, ◌-◌, Bool, cond, not, ◌&&◌, ◌||◌, List, [], ◌∷◌, take, drop, Some, None, Option, ◌==◌, nat_le, nat_lt}
 use Rattle.std.specs.Option.{option_or}
 use Rattle.dayfile.specs.declared.record.Owner.{Owner}
 use Rattle.dayfile.specs.Owners.{parts_of}
@@ -17,6 +17,10 @@ used_rule i least limit (o ∷ os) =
 -- all parts add up to a million
 abbrev pub sum_rule : List Owner → Option OwnersRule
 sum_rule os = cond (parts_of os == 1000000) None (Some (Sum (parts_of os)))
+
+-- a slot that is in use is not 0
+abbrev pub in_use : Owner → Bool
+in_use o = not (o.place == 0) || not (o.parts == 0)
 
 -- slots that are not in use are 0, the first of them being slot i
 unfoldable pub unused_rule : ℕ → List Owner → Option OwnersRule

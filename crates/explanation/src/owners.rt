@@ -1,7 +1,8 @@
 //! The rule that the owners of a Resource break.
 ghost use Rattle.std.specs.Prelude.{◌≡◌, ◌+◌, ◌^◌, ◌<◌, length, drop};
+ghost use Rattle.std.specs.List.{position};
 ghost use Rattle.dayfile.specs.Records.{resource_of, owner_from};
-ghost use Rattle.explanation.specs.Shares.{used_rule, sum_rule, unused_rule, owners_rule};
+ghost use Rattle.explanation.specs.Shares.{used_rule, sum_rule, in_use, unused_rule, owners_rule};
 
 use crate::finding::OwnersRule;
 use dayfile::{Owner, half_at, word_at};
@@ -26,29 +27,28 @@ fn broken_by_one(owners: &[Owner], limit: usize) -> Option<OwnersRule>
     requires { length owners.now < 2 ^ 16 }
     ensures { result ≡ used_rule 1 0 limit owners.now }
 {
-    let mut slot: usize = 1;
     let mut least: usize = 0;
-    for owner in owners {
-        let place = owner.place;
-        if (place as usize) < least {
+    for (i, &Owner { place, parts }) in owners.iter().enumerate() {
+        let slot = i + 1;
+        let at = usize::from(place);
+        if at < least {
             return Some(OwnersRule::Rising {
                 slot,
                 place,
                 last: least - 1,
             });
         }
-        if place as usize >= limit {
+        if at >= limit {
             return Some(OwnersRule::Below {
                 slot,
                 place,
                 participants: limit,
             });
         }
-        if owner.parts == 0 {
+        if parts == 0 {
             return Some(OwnersRule::Parts { slot });
         }
-        slot += 1;
-        least = place as usize + 1;
+        least = at + 1;
     }
     None
 }
@@ -58,15 +58,8 @@ fn broken_by_sum(owners: &[Owner]) -> Option<OwnersRule>
     requires { length owners.now < 2 ^ 16 }
     ensures { result ≡ sum_rule owners.now }
 {
-    let mut parts: u64 = 0;
-    for owner in owners {
-        parts += owner.parts as u64;
-    }
-    if parts == WHOLE {
-        None
-    } else {
-        Some(OwnersRule::Sum { parts })
-    }
+    let parts = owners.iter().map(|owner| u64::from(owner.parts)).sum();
+    (parts != WHOLE).then_some(OwnersRule::Sum { parts })
 }
 
 /// The first slot behind the used ones that is not 0.
@@ -74,18 +67,20 @@ fn broken_by_unused(slots: &[Owner], used: usize) -> Option<OwnersRule>
     requires { (length slots.now < 2 ^ 16) × (used < 2 ^ 16) }
     ensures { result ≡ unused_rule (used + 1) slots.now }
 {
-    let mut slot = used + 1;
-    for owner in slots {
-        if owner.place != 0 || owner.parts != 0 {
-            return Some(OwnersRule::Unused {
-                slot,
-                place: owner.place,
-                parts: owner.parts,
-            });
-        }
-        slot += 1;
-    }
-    None
+    let first = first_in_use(slots)?;
+    let Owner { place, parts } = slots[first];
+    Some(OwnersRule::Unused {
+        slot: used + 1 + first,
+        place,
+        parts,
+    })
+}
+
+/// Which slot is the first that is not 0, from 0.
+fn first_in_use(slots: &[Owner]) -> Option<usize>
+    ensures { result ≡ position in_use slots.now }
+{
+    slots.iter().position(|slot| *slot != Owner::default())
 }
 
 /// The eight owners of a block.
