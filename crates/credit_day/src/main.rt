@@ -20,19 +20,14 @@ use task::{Task, read_task};
 const READ: u64 = LONGEST as u64 + 1;
 
 fn main(rt: HostRuntime) -> anyhow::Result<ExitCode> {
-    let answered = answer(&rt)?;
-    if answered {
-        Ok(ExitCode::SUCCESS)
-    } else {
-        Ok(ExitCode::FAILURE)
-    }
+    answer(&rt)
 }
 
-/// Does what the arguments ask of the file on standard input, and says whether it could be done.
-fn answer(rt: &HostRuntime) -> anyhow::Result<bool> {
+/// Does what the arguments ask of the file on standard input; the status says whether it could be done.
+fn answer(rt: &HostRuntime) -> anyhow::Result<ExitCode> {
     let Some(task) = read_task(rt)? else {
         eprintln!(rt; "say nothing for the credits of the day, or: grid RESOURCE")?;
-        return Ok(false);
+        return Ok(ExitCode::FAILURE);
     };
     let mut bytes = Vec::new(rt.alloc());
     rt.stdin().take(READ).read_to_end(&mut bytes)?;
@@ -40,7 +35,7 @@ fn answer(rt: &HostRuntime) -> anyhow::Result<bool> {
     let mut day = AdmittedDay::built_in();
     if let Err(fault) = admit(file, &mut day) {
         refuse_file(rt, fault, file)?;
-        return Ok(false);
+        return Ok(ExitCode::FAILURE);
     }
     match task {
         Task::Credits => answer_credits(rt, &day),
@@ -49,27 +44,23 @@ fn answer(rt: &HostRuntime) -> anyhow::Result<bool> {
 }
 
 /// Credits the day, prints the credits or the refusal, and says which.
-fn answer_credits(rt: &HostRuntime, day: &AdmittedDay<'_>) -> anyhow::Result<bool> {
+fn answer_credits(rt: &HostRuntime, day: &AdmittedDay<'_>) -> anyhow::Result<ExitCode> {
     let mut credits = Credits::empty();
-    match credit(day, &mut credits) {
-        Ok(()) => print_credits(rt, day.header(), &credits)?,
-        Err(fault) => {
-            refuse_credits(rt, fault, day)?;
-            return Ok(false);
-        }
+    if let Err(fault) = credit(day, &mut credits) {
+        refuse_credits(rt, fault, day)?;
+        return Ok(ExitCode::FAILURE);
     }
-    Ok(true)
+    print_credits(rt, day.header(), &credits)?;
+    Ok(ExitCode::SUCCESS)
 }
 
 /// Allocates the hours of a Resource, prints the grid or the refusal, and says which.
-fn answer_grid(rt: &HostRuntime, day: &AdmittedDay<'_>, resource: u32) -> anyhow::Result<bool> {
+fn answer_grid(rt: &HostRuntime, day: &AdmittedDay<'_>, resource: u32) -> anyhow::Result<ExitCode> {
     let mut grid = Grid::empty();
-    match hourly_allocation(day, resource, &mut grid) {
-        Ok(()) => print_grid(rt, &grid)?,
-        Err(fault) => {
-            refuse_grid(rt, fault, day, resource)?;
-            return Ok(false);
-        }
+    if let Err(fault) = hourly_allocation(day, resource, &mut grid) {
+        refuse_grid(rt, fault, day, resource)?;
+        return Ok(ExitCode::FAILURE);
     }
-    Ok(true)
+    print_grid(rt, &grid)?;
+    Ok(ExitCode::SUCCESS)
 }

@@ -1,7 +1,7 @@
 //! Refusals: the number on standard output, the place and the reason on standard error.
 use credits::{Grid, hourly_allocation};
 use dayfile::{AdmittedDay, Fault, Place, Record};
-use explanation::{PoolName, explain, first_misfit, layer_name};
+use explanation::{PlaceLines, PoolName, explain, first_misfit, layer_name};
 use std::io;
 
 /// The most that a pool may cost in a day, in cents.
@@ -11,8 +11,7 @@ const DEAREST_POOL: u64 = 10_000_000_000;
 pub fn refuse_file(rt: &(impl Print + Eprint), fault: Fault, file: &[u8]) -> io::Result<()> {
     tell_fault(rt, fault)?;
     tell_place(rt, fault.place())?;
-    let finding = explain(fault, file);
-    eprintln!(rt; "{finding}")
+    eprintln!(rt; "{}", explain(fault, file))
 }
 
 /// Tells that the credits of a day are refused.
@@ -46,29 +45,13 @@ pub fn refuse_grid(
 
 /// Tells the refusal's number and its layer.
 fn tell_fault(rt: &(impl Print + Eprint), fault: Fault) -> io::Result<()> {
-    let number = fault.number();
-    let layer = layer_name(fault.layer());
-    println!(rt; "refused {number}")?;
-    eprintln!(rt; "layer {layer}")
+    println!(rt; "refused {}", fault.number())?;
+    eprintln!(rt; "layer {}", layer_name(fault.layer()))
 }
 
 /// Tells what a refusal says besides, a line for each number.
 fn tell_place(rt: &impl Eprint, place: Place) -> io::Result<()> {
-    match place {
-        Place::Nowhere => Ok(()),
-        Place::Block { block } => eprintln!(rt; "block {block}"),
-        Place::Field { block, byte } => {
-            eprintln!(rt; "block {block}")?;
-            eprintln!(rt; "byte {byte}")
-        }
-        Place::Byte { byte } => eprintln!(rt; "byte {byte}"),
-        Place::Hour { block, hour } => {
-            eprintln!(rt; "block {block}")?;
-            eprintln!(rt; "hour {hour}")
-        }
-        Place::Pool { pool } => eprintln!(rt; "pool {pool}"),
-        Place::Row { row } => eprintln!(rt; "row {row}"),
-    }
+    eprint!(rt; "{}", PlaceLines(place))
 }
 
 /// Tells the first event of a real-time block that may not follow those before it.
@@ -99,13 +82,12 @@ fn tell_cost(rt: &impl Eprint, day: &AdmittedDay<'_>, pool: usize) -> io::Result
 
 /// What the hours of all Resources bring into a pool.
 fn cost_of(day: &AdmittedDay<'_>, pool: usize) -> u64 {
-    let mut cost: u64 = 0;
-    for block in 0..day.blocks() {
-        if let Some(Record::Resource(resource)) = day.record(block) {
-            cost = cost.saturating_add(cost_of_resource(day, resource.number, pool));
-        }
-    }
-    cost
+    (0..day.blocks())
+        .map(|block| match day.record(block) {
+            Some(Record::Resource(resource)) => cost_of_resource(day, resource.number, pool),
+            _ => 0,
+        })
+        .fold(0, u64::saturating_add)
 }
 
 /// What the hours of a Resource bring into a pool.
@@ -113,21 +95,16 @@ fn cost_of_resource(day: &AdmittedDay<'_>, number: u32, pool: usize) -> u64 {
     let mut grid = Grid::empty();
     // no event of a day that is refused for a pool's cost is refused
     let _ = hourly_allocation(day, number, &mut grid);
-    let mut cost: u64 = 0;
-    for hour in &grid.hours {
-        cost = cost.saturating_add(hour.in_pool(pool));
-    }
-    cost
+    grid.hours
+        .iter()
+        .map(|hour| hour.in_pool(pool))
+        .fold(0, u64::saturating_add)
 }
 
 /// The real-time block of a Resource, if the day has one.
 fn real_time_block(day: &AdmittedDay<'_>, number: u32) -> Option<usize> {
-    for block in 0..day.blocks() {
-        if let Some(Record::RealTime(real_time)) = day.record(block) {
-            if real_time.number == number {
-                return Some(block);
-            }
-        }
-    }
-    None
+    (0..day.blocks()).find(|block| match day.record(*block) {
+        Some(Record::RealTime(real_time)) => real_time.number == number,
+        _ => false,
+    })
 }

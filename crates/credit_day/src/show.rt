@@ -7,18 +7,11 @@ use std::io;
 pub fn print_credits(rt: &impl Print, day: DayRecord, credits: &Credits) -> io::Result<()> {
     let DayRecord { date, version, .. } = day;
     println!(rt; "day {date} version {version}")?;
-    let mut total: u128 = 0;
-    for (participant, amounts) in credits
-        .participants
-        .iter()
-        .zip(credits.amounts.iter())
-        .take(credits.count)
-    {
+    let rows = &credits.amounts;
+    for (participant, amounts) in credits.participants.iter().zip(rows).take(credits.count) {
         print_row(rt, *participant, amounts)?;
-        // 48 rows of 21 amounts of 64 bits never come near the most that 128 bits hold
-        total = total.saturating_add(row_total(amounts));
     }
-    println!(rt; "total {total}")
+    println!(rt; "total {}", total_of(credits))
 }
 
 /// Prints the amounts above 0 of a row, each behind the row's number and its pool.
@@ -32,19 +25,29 @@ fn print_row(rt: &impl Print, number: u32, amounts: &PoolAmounts) -> io::Result<
     Ok(())
 }
 
+/// The sum over all participants and pools. 48 rows of 21 amounts of 64 bits never come near the most that 128 bits hold.
+fn total_of(credits: &Credits) -> u128 {
+    credits
+        .amounts
+        .iter()
+        .take(credits.count)
+        .map(row_total)
+        .fold(0, u128::saturating_add)
+}
+
 /// The sum over all pools.
 fn row_total(amounts: &PoolAmounts) -> u128 {
-    let mut total: u128 = 0;
-    for cents in &amounts.cents {
-        total = total.saturating_add(u128::from(*cents));
-    }
-    total
+    amounts
+        .cents
+        .iter()
+        .map(|cents| u128::from(*cents))
+        .fold(0, u128::saturating_add)
 }
 
 /// Prints a line for each hour and pool with cents.
 pub fn print_grid(rt: &impl Print, grid: &Grid) -> io::Result<()> {
-    for hour in 0..24 {
-        print_row(rt, hour as u32 + 1, &grid.hours[hour])?;
+    for (hour, amounts) in (1u32..).zip(&grid.hours) {
+        print_row(rt, hour, amounts)?;
     }
     Ok(())
 }

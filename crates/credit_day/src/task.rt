@@ -25,25 +25,13 @@ pub fn read_task(rt: &HostRuntime) -> io::Result<Option<Task>> {
 
 /// The grid of the Resource that a word names by its number.
 fn grid_of(word: &str) -> Option<Task> {
-    match number_in(word.as_bytes()) {
-        Some(resource) => Some(Task::Grid { resource }),
-        None => None,
-    }
+    number_in(word).map(|resource| Task::Grid { resource })
 }
 
 /// The number that decimal digits say. One too large is the largest of its type, which no Resource has.
-fn number_in(digits: &[u8]) -> Option<u32> {
-    if digits.is_empty() {
+fn number_in(word: &str) -> Option<u32> {
+    if word.is_empty() || !word.bytes().all(|byte| byte.is_ascii_digit()) {
         return None;
     }
-    let mut number: u32 = 0;
-    for digit in digits {
-        match *digit {
-            b'0'..=b'9' => number = number
-                .saturating_mul(10)
-                .saturating_add(u32::from(*digit - b'0')),
-            _ => return None,
-        }
-    }
-    Some(number)
+    Some(word.parse().unwrap_or(u32::MAX))
 }
