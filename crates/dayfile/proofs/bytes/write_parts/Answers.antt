@@ -1,7 +1,5 @@
-use Rattle.std.proofs.Common.{◌+◌, ◌*◌, length, drop, sym, ap, ◌∙◌, subst, arith}
-use Rattle.std.specs.List.{flat_map}
+use Rattle.std.proofs.Common.{length, ◌∙◌, subst, arith}
 use Rattle.std.proofs.ByRecursion.{All-more}
-use Rattle.dayfile.specs.Bytes.{laid}
 use Rattle.dayfile.proofs.Each.{part_within}
 use Rattle.dayfile.proofs.Laid.{laid_next}
 use Rattle.dayfile.proofs.bytes.write_parts.Goals as goal
