@@ -54,10 +54,7 @@ impl<'f> AdmittedDay<'f> {
     pub fn record(&self, k: usize) -> Option<Record>
         ensures { result ≡ record_at self.now.file.now k }
     {
-        match self.block(k) {
-            Some(block) => Some(block.record()),
-            None => None,
-        }
+        self.block(k).map(|block| block.record())
     }
 }
 

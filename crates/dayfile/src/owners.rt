@@ -32,12 +32,7 @@ fn whole(owners: &[Owner], limit: usize) -> bool
 fn unused(slots: &[Owner]) -> bool
     ensures { result ≡ vacant slots.now }
 {
-    for slot in slots {
-        if slot.place != 0 || slot.parts != 0 {
-            return false;
-        }
-    }
-    true
+    slots.iter().all(|slot| slot.place == 0 && slot.parts == 0)
 }
 
 /// Whether the first `count` slots hold owners that keep the rules, and no other slot is in use.
