@@ -1,10 +1,10 @@
 -- The owners' rules: the turns of the loops over owners, and the rules as facts.
 use Rattle.std.proofs.Common.{◌≡◌, ℕ, ◌+◌, ◌^◌, ◌<◌, ◌≤◌, min, Bool, true, false, ◌&&◌, eqb, ltb, leb, ◌⊎◌, List, [], ◌∷◌, map, length, get_or, take, drop, sum, sym, refl, ap, ◌∙◌, subst, inl, inr, le_refl, arith}
-use Rattle.std.specs.List.{AllByRecursion}
+use Rattle.std.specs.List.{AllByRecursion, list_all}
 use Rattle.std.proofs.lemmas.List.{at_drop_more, take-append-drop}
 use Rattle.std.proofs.ByRecursion.{All-append, All-weaker}
 use Rattle.std.proofs.lemmas.List.Sums.{sum-map, sum_by-cons}
-use Rattle.std.proofs.lemmas.Bool.{and_parts, eqb-true, ltb-true, leb-true, and_left, and_right, and_from, eq-eqb, ne_eqb, lt-ltb, le-ltb, le-leb, lt-leb}
+use Rattle.std.proofs.lemmas.Bool.{and_parts, eqb-true, ltb-true, leb-true, and_left, and_right, and_from, eq-eqb, lt-ltb, le-ltb, le-leb, lt-leb}
 use Rattle.dayfile.specs.declared.record.Owner.{Owner}
 use Rattle.dayfile.specs.Owners.{Rises, Owned, placed, parts_of, vacant, owners_kept}
 use Rattle.dayfile.specs.Writing.{OwnerFits}
@@ -16,20 +16,14 @@ no_owner = record { place = 0; parts = 0 }
 passes : (t u : Bool) → t ≡ true → (t && u) ≡ u
 passes t u e = ap (λ x. x && u) e
 
+pub vacant_all : (os : List Owner) → list_all (λ (o : Owner). eqb o.place 0 && eqb o.parts 0) os ≡ vacant os
+unfolding vacant
+vacant_all [] = refl
+vacant_all (o ∷ os) = ap (λ b. (eqb o.place 0 && eqb o.parts 0) && b) (vacant_all os)
+
 module _ (os : List Owner) (i : ℕ) (h : i < length os) where
   abbrev owner : Owner
   owner = get_or os i no_owner
-
-  vacant_step : vacant (drop i os) ≡ (eqb owner.place 0 && eqb owner.parts 0) && vacant (drop (i + 1) os)
-  unfolding vacant
-  vacant_step = at_drop_more vacant os i no_owner h
-
-  pub vacant_more : owner.place ≡ 0 → owner.parts ≡ 0 → vacant (drop i os) ≡ vacant (drop (i + 1) os)
-  vacant_more p q = vacant_step ∙ passes _ _ (and_from _ _ (eq-eqb _ _ p) (eq-eqb _ _ q))
-
-  pub vacant_not : (owner.place ≡ 0 → ⊥) ⊎ (owner.parts ≡ 0 → ⊥) → vacant (drop i os) ≡ false
-  vacant_not (inl p) = vacant_step ∙ and_left _ _ (and_left _ _ (ne_eqb _ _ p))
-  vacant_not (inr q) = vacant_step ∙ and_left _ _ (and_right _ _ (ne_eqb _ _ q))
 
   placed_step : (least limit : ℕ) → placed least limit (drop i os)
       ≡ (leb least owner.place && (ltb owner.place limit && ltb 0 owner.parts)) && placed (owner.place + 1) limit (drop (i + 1) os)

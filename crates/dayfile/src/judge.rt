@@ -46,7 +46,11 @@ fn is_owned(kind: Kind, block: &[u8; BLOCK], limit: usize) -> bool
     ensures { result ≡ owned limit block.now }
 {
     match kind {
-        Kind::Resource => kept(&read_parts::<Owner, OWNERS>(&block[120..168]), block[113] as usize, limit),
+        Kind::Resource => kept(
+            &read_parts::<Owner, OWNERS>(&block[120..168]),
+            block[113] as usize,
+            limit,
+        ),
         Kind::Day | Kind::Participant | Kind::RealTime => true,
     }
 }

@@ -441,7 +441,10 @@ impl Entry {
                 self.all_pass::<4, _>(block, |n| (least <= n) & (n <= most))
             }
             (Limits::Signed { most }, 4) => {
-                self.all_pass::<4, _>(block, |n| (n <= most) | (n as u64 + most as u64 >= 4_294_967_296))
+                self.all_pass::<4, _>(
+                    block,
+                    |n| (n <= most) | (n as u64 + most as u64 >= 4_294_967_296),
+                )
             }
             (Limits::Whole { least, most }, 1) => {
                 self.all_pass::<1, _>(block, |n| (least <= n) & (n <= most))
