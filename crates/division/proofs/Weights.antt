@@ -1,14 +1,15 @@
 -- The weights of records: their sum, and what a loop over the records has read of them.
-use Rattle.std.proofs.Common.{◌≡◌, ℕ, ◌+◌, ◌*◌, ◌/◌, ◌%◌, ◌<◌, ◌≤◌, Bool, ◌&&◌, ◌||◌, eqb, ltb, List, [], ◌∷◌, map, length, get_or, take, sum_by, sum, sym, ap, ◌∙◌, arith}
+use Rattle.std.proofs.Common.{◌≡◌, ℕ, ◌+◌, ◌*◌, ◌/◌, ◌%◌, ◌<◌, ◌≤◌, ltb, List, [], ◌∷◌, map, length, get_or, sum_by, sum, sym, ap, ◌∙◌, arith}
 use mir.Val.{bool_byte}
-use Rattle.std.proofs.lemmas.List.{get_or-map, take_all}
+use Rattle.std.proofs.lemmas.List.{get_or-map}
+use Rattle.std.specs.List.{range_with_len}
 use Rattle.std.proofs.lemmas.List.Sums.{sum-map, sum_by-cons}
 use Rattle.division.specs.Records.{Lawful, handed}
-use Rattle.division.specs.Division.{whole_part, remainder, left_over, sooner, rank, share, divided}
-use Rattle.division.proofs.Tallies.{tally, sum_tally, tally_part, tally_front, tally_more}
+use Rattle.division.specs.Division.{whole_part, remainder, left_over, rank, share, divided}
+use Rattle.division.proofs.Tallies.{tally, places_tally, tally_front, tally_more}
 use Rattle.division.specs.Cuts.{tick}
-use Rattle.division.proofs.Keys.{byte_tick, tick_few, tick_less}
-use Rattle.division.proofs.Parts.{wholes_within, left_is, whole_within, rank_tally}
+use Rattle.division.proofs.Keys.{byte_tick, tick_less}
+use Rattle.division.proofs.Parts.{wholes_within, left_is, whole_within}
 use Rattle.division.proofs.FairLaws.{get_or_divided}
 use Rattle.division.proofs.Handing.{handed_keeps}
 
@@ -16,22 +17,14 @@ use Rattle.division.proofs.Handing.{handed_keeps}
 pub weight_at : {S : Type 0} (weighs : S → ℕ) (xs : List S) (i : ℕ) (x : S) → i < length xs → x ≡ get_or xs i x → get_or (map weighs xs) i 0 ≡ weighs x
 weight_at weighs xs i x l e = get_or-map weighs xs i x 0 l ∙ ap weighs (sym e)
 
--- no weight is more than all
-pub weight_within : (ws : List ℕ) (i : ℕ) → i < length ws → get_or ws i 0 ≤ sum ws
-weight_within ws i l = omega (arith, sum_tally ws, tally_part (λ k. get_or ws k 0) (length ws) i l)
-
--- the parts of a record that was read, from the weight that it told
-pub whole_at : {S : Type 0} (weighs : S → ℕ) (xs : List S) (i : ℕ) (x : S) (c w total q : ℕ) → i < length xs → x ≡ get_or xs i x → total ≡ sum (map weighs xs)
-    → w ≡ weighs x → q ≡ c * w / total → q ≡ whole_part c (map weighs xs) i
+-- the parts of an exact share
+pub whole_is : (c total e i : ℕ) (ws : List ℕ) → total ≡ sum ws → e ≡ c * get_or ws i 0 → e / total ≡ whole_part c ws i
 unfolding whole_part
-whole_at weighs xs i x c w total q l e s v h =
-    h ∙ ap (λ y. c * y / total) (v ∙ sym (weight_at weighs xs i x l e)) ∙ ap (λ y. c * get_or (map weighs xs) i 0 / y) s
+whole_is c total e i ws s h = ap (λ x. x / total) h ∙ ap (λ y. c * get_or ws i 0 / y) s
 
-pub remainder_at : {S : Type 0} (weighs : S → ℕ) (xs : List S) (i : ℕ) (x : S) (c w total r : ℕ) → i < length xs → x ≡ get_or xs i x → total ≡ sum (map weighs xs)
-    → w ≡ weighs x → r ≡ c * w % total → r ≡ remainder c (map weighs xs) i
+pub remainder_is : (c total e i : ℕ) (ws : List ℕ) → total ≡ sum ws → e ≡ c * get_or ws i 0 → e % total ≡ remainder c ws i
 unfolding remainder
-remainder_at weighs xs i x c w total r l e s v h =
-    h ∙ ap (λ y. c * y % total) (v ∙ sym (weight_at weighs xs i x l e)) ∙ ap (λ y. c * get_or (map weighs xs) i 0 % y) s
+remainder_is c total e i ws s h = ap (λ x. x % total) h ∙ ap (λ y. c * get_or ws i 0 % y) s
 
 -- the whole parts of the records that were read, and of one more, are within the cents
 pub wholes_more : (c : ℕ) (ws : List ℕ) (i : ℕ) → 0 < sum ws → i < length ws → tally (whole_part c ws) i + whole_part c ws i ≤ c
@@ -59,20 +52,6 @@ pub share_within : (c : ℕ) (ws : List ℕ) (i : ℕ) → 0 < sum ws → i < le
 unfolding share
 share_within c ws i h l = omega (arith, whole_within c ws i h l, tick_less (rank c ws i) (left_over c ws))
 
--- one record more that may rank before
-pub rank_more : (c : ℕ) (ws : List ℕ) (i j own other before one : ℕ) (t : Bool) → own ≡ remainder c ws i → other ≡ remainder c ws j
-    → t ≡ (ltb own other || (eqb own other && ltb j i)) → one ≡ bool_byte t → before ≡ tally (λ k. tick (sooner (remainder c ws) i k)) j → before ≤ j
-    → (before + one ≡ tally (λ k. tick (sooner (remainder c ws) i k)) (j + 1)) × (before + one ≤ j + 1)
-rank_more c ws i j own other before one t p q test b h l =
-    let r = remainder c ws in
-    let s : t ≡ sooner r i j =
-    test ∙ ap (λ x. ltb x other || (eqb x other && ltb j i)) p ∙ ap (λ x. ltb (r i) x || (eqb (r i) x && ltb j i)) q in
-    let o : one ≡ tick (sooner r i j) = b ∙ byte_tick t ∙ ap tick s in
-    (omega (arith, tally_more (λ k. tick (sooner r i k)) j), omega (arith, tick_few (sooner r i j)))
-
-pub rank_all : (c : ℕ) (ws : List ℕ) (i j before : ℕ) → j ≡ length ws → before ≡ tally (λ k. tick (sooner (remainder c ws) i k)) j → before ≡ rank c ws i
-rank_all c ws i j before e h = h ∙ ap (tally (λ k. tick (sooner (remainder c ws) i k))) e ∙ sym (rank_tally c ws i)
-
 -- a share worked out over weights that are as they were is the division's
 pub share_kept : (c : ℕ) (ws us : List ℕ) (i s : ℕ) → us ≡ ws → i < length ws → s ≡ share c us i → s ≡ get_or (divided c ws) i 0
 share_kept c ws us i s k l e = e ∙ ap (λ vs. share c vs i) k ∙ sym (get_or_divided c ws i l)
@@ -84,3 +63,7 @@ weights_light weighs light xs = omega (arith, sum-map weighs xs, by xs)
     by : (ys : List _) → sum_by weighs ys ≤ length ys * 100000000
     by [] = omega arith
     by (y ∷ ys) = omega (arith, sum_by-cons weighs y ys, light y, by ys)
+
+-- all whole parts together are within the cents
+pub wholes_fit : (c : ℕ) (ws : List ℕ) (n : ℕ) → n ≡ length ws → 0 < sum ws → sum_by (whole_part c ws) (range_with_len 0 n) ≤ c
+wholes_fit c ws n e h = omega (arith, places_tally (whole_part c ws) n, ap (tally (whole_part c ws)) e, wholes_within c ws h)

@@ -1,5 +1,5 @@
-use Rattle.std.proofs.Common.{◌+◌, ◌<◌, ◌≤◌, length, get_or, sym, ap, ◌∙◌, arith, rules}
-use Rattle.std.proofs.lemmas.List.{length-map, get_or-map}
+use Rattle.std.proofs.Common.{◌+◌, ◌<◌, ◌≤◌, length, get_or, sym, arith, rules}
+use Rattle.std.proofs.lemmas.List.{get_or-map}
 use Rattle.division.specs.Cuts.{topped}
 use Rattle.division.proofs.Cutting.{length_topped, topped_at}
 use Rattle.division.proofs.Handing.{handed_none, handed_step, handed_all}

@@ -1,9 +1,9 @@
-use Rattle.std.proofs.Common.{◌≡◌, ◌+◌, ◌-◌, ◌*◌, ◌/◌, ◌%◌, ◌≤◌, map, refl, ap, ◌∙◌, arith, rules}
+use Rattle.std.proofs.Common.{◌≡◌, ◌+◌, ◌-◌, ◌*◌, ◌/◌, ◌%◌, ◌≤◌, map, get_or, sym, ap, ◌∙◌, arith, rules}
 use Rattle.std.proofs.lemmas.Nat.{mul-le}
 use Rattle.std.proofs.lemmas.List.{length-map}
 use Rattle.division.specs.Division.{whole_part, remainder}
 use Rattle.division.proofs.Tallies.{tally_more}
-use Rattle.division.proofs.Weights.{whole_at, remainder_at, wholes_more, left_all}
+use Rattle.division.proofs.Weights.{weight_at, whole_is, remainder_is, wholes_more, left_all}
 use Rattle.division.proofs.Cutting.{noted_more, noted_all}
 use Rattle.division.proofs.few.note_parts.Given as given
 use Rattle.division.proofs.few.note_parts.Goals as goal
@@ -14,18 +14,20 @@ overflow_mul-exact g c =
     let m : c.args.cents * c.from.result ≤ 100000000000 * 100000000 = mul-le c.args.cents c.from.result 100000000000 100000000 c.requires.sizes.0 light in
     search rules
 
--- the parts that were noted are the record's
+-- the exact share of the record
+exact : (g : given.Over) (c : goal.After-key_of g)
+    → c.args.cents * c.from.result ≡ c.args.cents * get_or (map g.T.Weighted.weighs c.args.records.now) c.loop-i.i 0
+exact g c =
+    let w = weight_at g.T.Weighted.weighs c.args.records.now c.loop-i.i c.index-records-i.result c.loop-i-test.true c.index-records-i.is in
+    ap (λ x. c.args.cents * x) (c.from.ensures ∙ c.weight.ensures ∙ sym w)
+
 whole : (g : given.Over) (c : goal.After-key_of g)
     → c.args.cents * c.from.result / c.args.total ≡ whole_part c.args.cents (map g.T.Weighted.weighs c.args.records.now) c.loop-i.i
-whole g c =
-    whole_at g.T.Weighted.weighs c.args.records.now c.loop-i.i c.index-records-i.result c.args.cents c.from.result c.args.total _
-    c.loop-i-test.true c.index-records-i.is c.requires.weighed.0 (c.from.ensures ∙ c.weight.ensures) refl
+whole g c = whole_is c.args.cents c.args.total _ c.loop-i.i _ c.requires.weighed.0 (exact g c)
 
 rest : (g : given.Over) (c : goal.After-key_of g)
     → c.args.cents * c.from.result % c.args.total ≡ remainder c.args.cents (map g.T.Weighted.weighs c.args.records.now) c.loop-i.i
-rest g c =
-    remainder_at g.T.Weighted.weighs c.args.records.now c.loop-i.i c.index-records-i.result c.args.cents c.from.result c.args.total _
-    c.loop-i-test.true c.index-records-i.is c.requires.weighed.0 (c.from.ensures ∙ c.weight.ensures) refl
+rest g c = remainder_is c.args.cents c.args.total _ c.loop-i.i _ c.requires.weighed.0 (exact g c)
 
 pub overflow_sub-left : goal.overflow_sub-left
 overflow_sub-left g c =

@@ -9,10 +9,15 @@ use Rattle.division.proofs.many.hand_out.Goals as goal
 pub loop-i-init : goal.loop-i-init
 loop-i-init g c = sym (handed_none g.T.Weighted.given c.args.records.now)
 
-pub share_of-share-requires : goal.share_of-share-requires
-share_of-share-requires g c =
+pub invariant_of-share : goal.invariant_of-share
+invariant_of-share g c =
     let k = weights_kept g.T.Weighted.weighs g.T.Weighted.holds g.T.Weighted.given g.T.Weighted.lawful c.args.records.now c.loop-i.records _ c.loop-i.invariant in
-    (c.requires.0 ∙ sym (ap sum k), (c.requires.1, (omega arith, c.left_of-left.ensures ∙ sym (ap (left_over c.args.cents) k))))
+    record { weighed = (c.requires.0 ∙ sym (ap sum k), c.requires.1) }
+
+pub share-share-requires : goal.share-share-requires
+share-share-requires g c =
+    let k = weights_kept g.T.Weighted.weighs g.T.Weighted.holds g.T.Weighted.given g.T.Weighted.lawful c.args.records.now c.loop-i.records _ c.loop-i.invariant in
+    (omega arith, c.left_over-left.ensures ∙ sym (ap (left_over c.args.cents) k))
 
 pub loop-i-preserved : goal.loop-i-preserved
 loop-i-preserved g c =
@@ -22,9 +27,9 @@ loop-i-preserved g c =
     let i = c.loop-i.i in
     let n = length-map xs g.T.Weighted.weighs in
     let k = weights_kept g.T.Weighted.weighs g.T.Weighted.holds g.T.Weighted.given g.T.Weighted.lawful xs c.loop-i.records _ c.loop-i.invariant in
-    handed_step g.T.Weighted.given xs c.loop-i.records (divided cents ws) i c.index-records-i.result c.take.new.self c.share_of-share.result
+    handed_step g.T.Weighted.given xs c.loop-i.records (divided cents ws) i c.index-records-i.result c.take.new.self c.share-share.result
     (omega (arith, length_divided cents ws)) c.loop-i.invariant c.take.ensures
-    (share_kept cents ws (map g.T.Weighted.weighs c.loop-i.records) i c.share_of-share.result k (omega arith) c.share_of-share.ensures)
+    (share_kept cents ws (map g.T.Weighted.weighs c.loop-i.records) i c.share-share.result k (omega arith) c.share-share.ensures)
 
 pub returns : goal.returns
 returns g c =
