@@ -65,7 +65,7 @@ fn note_parts<T: Weighted>(cents: u64, total: u64, records: &[T], parts: &mut [P
 fn reaching(bound: u64, parts: &[Part]) -> u64
     ensures { result ≡ reached bound (keys parts.now) }
 {
-    parts.iter().filter(|part| bound <= part.key).count() as u64
+    parts.iter().map(|part| u64::from(bound <= part.key)).sum()
 }
 
 /// A bound that just `left` of the keys reach, all of which are different and below `above`. It is found by halving.
