@@ -49,6 +49,7 @@ fn note_parts<T: Weighted>(cents: u64, total: u64, records: &[T], parts: &mut [P
     ensures parts { parts.new ≡ noted cents (map T.Weighted.weighs records.now) }
 {
     let mut left = cents;
+    // With iter_mut in a zip, a proof knows nothing of the parts after the loop: so they are named by their places.
     for (i, record) in records.iter().enumerate() {
         let exact = cents * u64::from(record.weight());
         let whole = exact / total;
@@ -100,6 +101,7 @@ fn hand_out<T: Weighted>(bound: u64, parts: &[Part], records: &mut [T])
     requires small { (i : ℕ) → i < length parts.now → slice_index (wholes parts.now) i ≤ MOST_CENTS }
     ensures { records.new ≡ handed T.Weighted.given records.old (topped bound parts.now) }
 {
+    // As in note_parts: with iter_mut in a zip, a proof knows nothing of the records after the loop.
     for (i, record) in records.iter_mut().enumerate() {
         record.take(parts[i].whole + u64::from(bound <= parts[i].key));
     }

@@ -81,20 +81,20 @@ fn hand_out<T: Weighted>(cents: u64, total: u128, records: &mut [T])
     requires { (total ≡ sum (map T.Weighted.weighs records.old)) × (0 < total) }
     ensures { records.new ≡ handed T.Weighted.given records.old (divided cents (map T.Weighted.weighs records.old)) }
 {
-    let left = Division {
+    let all = Division {
         cents,
         records,
         total,
-    }
-    .left_over();
-    // Each share is worked out from all records, so none of them is lent out by an iterator meanwhile.
+    };
+    let left = all.left_over();
+    // Each share is worked out from all records, so no iterator may hold one of them meanwhile.
     for i in 0..records.len() {
-        let share = Division {
+        let all = Division {
             cents,
             records,
             total,
-        }
-        .share(left, i);
+        };
+        let share = all.share(left, i);
         records[i].take(share);
     }
 }

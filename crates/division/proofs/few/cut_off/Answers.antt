@@ -1,4 +1,4 @@
-use Rattle.std.proofs.Common.{◌+◌, ◌-◌, ◌/◌, ◌≤◌, sym, ◌∙◌, arith, rules}
+use Rattle.std.proofs.Common.{sym, ◌∙◌, arith}
 use Rattle.division.specs.Cuts.{keys}
 use Rattle.division.proofs.Cutting.{reached_none, reached_every, room_between}
 use Rattle.division.proofs.few.cut_off.Goals as goal
@@ -13,9 +13,6 @@ loop-left-init c = (
   omega arith,
   omega arith,
 )
-
-pub overflow_add-middle : goal.overflow_add-middle
-overflow_add-middle c = let m : c.loop-left.low + (c.loop-left.high - c.loop-left.low) / 2 ≤ c.args.above = omega arith in search rules
 
 pub loop-left-smaller-then-count-left-2 : goal.loop-left-smaller-then-count-left-2
 loop-left-smaller-then-count-left-2 c =

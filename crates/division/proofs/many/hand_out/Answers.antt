@@ -9,8 +9,8 @@ use Rattle.division.proofs.many.hand_out.Goals as goal
 pub loop-i-init : goal.loop-i-init
 loop-i-init g c = sym (handed_none g.T.Weighted.given c.args.records.now)
 
-pub invariant_of-share : goal.invariant_of-share
-invariant_of-share g c =
+pub invariant_of-all-in-loop-i : goal.invariant_of-all-in-loop-i
+invariant_of-all-in-loop-i g c =
     let k = weights_kept g.T.Weighted.weighs g.T.Weighted.holds g.T.Weighted.given g.T.Weighted.lawful c.args.records.now c.loop-i.records _ c.loop-i.invariant in
     record { weighed = (c.requires.0 ∙ sym (ap sum k), c.requires.1) }
 
