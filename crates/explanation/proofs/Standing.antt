@@ -1,11 +1,26 @@
 -- What stands before a block: a turn of the loops over the blocks, and that nothing stands past the end of a file.
-use Rattle.std.proofs.Common.{◌≡◌, ℕ, zero, suc, ◌+◌, ◌-◌, ◌*◌, ◌/◌, ◌<◌, ◌≤◌, min, false, eqb, ◌⊎◌, List, [], length, get_or, take, Some, None, unwrap_or, sym, ap, ◌∙◌, inl, inr, add-one, arith}
+use Rattle.std.proofs.Common.{◌≡◌, ℕ, zero, suc, ◌+◌, ◌-◌, ◌*◌, ◌/◌, ◌<◌, ◌≤◌, min, true, false, eqb, ◌⊎◌, List, [], length, get_or, take, drop, Some, None, Option, unwrap_or, IfSome, MatchOption, Bor, sym, refl, ap, ◌∙◌, subst, inl, inr, add-one, arith}
+use Rattle.std.specs.List.{IsSubsliceAt}
+use Rattle.std.specs.Option.{SomeIff, option_map}
+use Rattle.std.specs.Iterator.Runs.{Run, IsChunksRun}
 use Rattle.std.proofs.lemmas.List.{drop_all}
 use Rattle.std.proofs.lemmas.Bool.{cases_lt, eq-eqb, ne_eqb, cond-true, cond-false}
 use Rattle.dayfile.specs.Files.{block, kind, number_in, kind_before, number_before, tally, latest}
 
 pub block_past : (f : List ℕ) (k : ℕ) → length f ≤ 512 * k → block f k ≡ []
 block_past f k h = ap (take 512) (drop_all (512 * k) f h)
+
+-- the chunk at a place among those that a run gave is the block
+pub chunk_is : {S : Type 0} {steps : S → Option (Bor (List ℕ)) → S → Type 0} (p : Run steps) (f : List ℕ) (k : ℕ) (o : Option (Bor (List ℕ))) (r none : Bor (List ℕ))
+    → IsChunksRun p 512 f → MatchOption o ((p.whole ≡ true) × (p.len ≤ k)) (λ x. (p.len ≡ k + 1) × (p.at k ≡ Some x))
+    → none.now ≡ [] → r ≡ unwrap_or o none → r.now ≡ block f k
+chunk_is p f k None r none runs m e u =
+    let n : p.len ≡ min (length f) ((length f + 512 - 1) / 512) = runs.1 m.0 in
+    ap (λ b. b.now) u ∙ e ∙ sym (block_past f k (omega (arith, n, m.1)))
+chunk_is p f k (Some x) r none runs m e u =
+    let there = subst (λ o. IfSome o (λ x. (0 < length x.now) × (k * 512 < length f) × IsSubsliceAt 512 f (k * 512) x.now)) m.1 (runs.2 k) in
+    let d : k * 512 ≡ 512 * k = omega arith in
+    ap (λ b. b.now) u ∙ there.2.0 ∙ ap (λ j. take 512 (drop j f)) d
 
 kind_past : (c : ℕ) (f : List ℕ) (k : ℕ) → 0 < c → length f ≤ 512 * k → eqb (kind f k) c ≡ false
 kind_past c f k p h = ap (λ b. eqb (get_or b 0 0) c) (block_past f k h) ∙ ne_eqb 0 c (λ e. omega arith)
@@ -70,18 +85,16 @@ module _ (c : ℕ) (f : List ℕ) (k m : ℕ) (p : 0 < c) (e : m ≡ min k (leng
       go (inr l) = latest_past c f m k p (omega arith) (omega arith)
 
 -- the block right before
-pub kind_first : (f : List ℕ) (k : ℕ) → k ≡ 0 → kind_before f k ≡ None
+pub kind_right_before : (f : List ℕ) (k : ℕ) (o : Option ℕ) → SomeIff o (1 ≤ k) (k - 1) → option_map (kind f) o ≡ kind_before f k
 unfolding kind_before
-kind_first f k e = ap (kind_before f) e
+kind_right_before f zero None n = refl
+kind_right_before f (suc k) None n = absurd (n (omega arith))
+kind_right_before f zero (Some i) n = absurd (omega arith)
+kind_right_before f (suc k) (Some i) n = let e : i ≡ k = omega arith in ap (λ j. Some (kind f j)) e
 
-pub kind_next : (f : List ℕ) (k : ℕ) → (k ≡ 0 → ⊥) → kind_before f k ≡ Some (kind f (k - 1))
-unfolding kind_before
-kind_next f k h = let e : k ≡ suc (k - 1) = omega arith in ap (kind_before f) e
-
-pub number_first : (f : List ℕ) (k : ℕ) → k ≡ 0 → number_before f k ≡ 0
+pub number_right_before : (f : List ℕ) (k : ℕ) (o : Option ℕ) → SomeIff o (1 ≤ k) (k - 1) → unwrap_or (option_map (number_in f) o) 0 ≡ number_before f k
 unfolding number_before
-number_first f k e = ap (number_before f) e
-
-pub number_next : (f : List ℕ) (k : ℕ) → (k ≡ 0 → ⊥) → number_before f k ≡ number_in f (k - 1)
-unfolding number_before
-number_next f k h = let e : k ≡ suc (k - 1) = omega arith in ap (number_before f) e
+number_right_before f zero None n = refl
+number_right_before f (suc k) None n = absurd (n (omega arith))
+number_right_before f zero (Some i) n = absurd (omega arith)
+number_right_before f (suc k) (Some i) n = let e : i ≡ k = omega arith in ap (number_in f) e

@@ -9,11 +9,7 @@ use dayfile::{BLOCK, byte_at, word_at};
 pub(crate) fn block_at(file: &[u8], k: usize) -> &[u8]
     ensures { result.now ≡ block file.now k }
 {
-    if k > file.len() / BLOCK {
-        return &[];
-    }
-    let rest = &file[BLOCK * k..];
-    &rest[0..rest.len().min(BLOCK)]
+    file.chunks(BLOCK).nth(k).unwrap_or(&[])
 }
 
 /// The letter of block `k`.
@@ -27,22 +23,14 @@ pub(crate) fn kind_at(file: &[u8], k: usize) -> u8
 pub(crate) fn kind_before(file: &[u8], k: usize) -> Option<u8>
     ensures { result ≡ kind_before file.now k }
 {
-    if k == 0 {
-        None
-    } else {
-        Some(kind_at(file, k - 1))
-    }
+    k.checked_sub(1).map(|last| kind_at(file, last))
 }
 
 /// The number in the block right before block `k`, or 0.
 pub(crate) fn number_before(file: &[u8], k: usize) -> u32
     ensures { result ≡ number_before file.now k }
 {
-    if k == 0 {
-        0
-    } else {
-        word_at(block_at(file, k - 1), 4)
-    }
+    k.checked_sub(1).map_or(0, |last| word_at(block_at(file, last), 4))
 }
 
 /// How many of the blocks before block `k` begin with a letter.

@@ -1,13 +1,13 @@
-use Rattle.std.proofs.Common.{◌-◌, ◌*◌, length, drop, sym, arith}
-use Rattle.std.proofs.lemmas.List.{length-drop}
-use Rattle.explanation.proofs.Cuts.{take_most}
-use Rattle.explanation.proofs.Standing.{block_past}
+use Rattle.std.proofs.Common.{refl, ap, ◌∙◌, subst, arith}
+use Rattle.std.specs.Iterator.Runs.{IsChunksRun}
+use Rattle.explanation.proofs.Standing.{chunk_is}
 use Rattle.explanation.proofs.blocks.block_at.Goals as goal
-
-pub returns-then-k-file : goal.returns-then-k-file
-returns-then-k-file c = sym (block_past c.args.file.now c.args.k (omega arith))
 
 pub returns : goal.returns
 returns c =
-    let d = length-drop (512 * c.args.k) c.args.file.now in
-    take_most 512 (drop (512 * c.args.k) c.args.file.now) (length c.args.file.now - 512 * c.args.k) c.min.result (omega (arith, d)) c.min.ensures
+    let n = c.nth.ensures.runs in
+    let s = ap (λ x. x.size) n.1 ∙ c.chunks.ensures.size in
+    let t = ap (λ x. x.rest.now) n.1 ∙ c.chunks.ensures.rest in
+    let r = c.chunks.ensures.runs n.0 n.0.seen (omega (arith, s)) in
+    let q = subst (λ f. IsChunksRun n.0 512 f) t (subst (λ m. IsChunksRun n.0 m n.0.from.rest.now) s r) in
+    chunk_is n.0 c.args.file.now c.args.k c.nth.result c.unwrap_or.result _ q n.2 refl c.unwrap_or.ensures

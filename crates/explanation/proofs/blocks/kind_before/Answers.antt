@@ -1,9 +1,10 @@
-use Rattle.std.proofs.Common.{Some, sym, ap, ◌∙◌}
-use Rattle.explanation.proofs.Standing.{kind_first, kind_next}
+use Rattle.std.proofs.Common.{◌≡◌, ◌∙◌, rules}
+use Rattle.std.specs.Option.{option_map}
+use Rattle.dayfile.specs.Files.{kind}
+use Rattle.explanation.proofs.Standing.{kind_right_before}
 use Rattle.explanation.proofs.blocks.kind_before.Goals as goal
 
-pub returns-then-k-eq0 : goal.returns-then-k-eq0
-returns-then-k-eq0 c = sym (kind_first c.args.file.now c.args.k c.if-k-eq0.true)
-
-pub returns-else-k-eq0 : goal.returns-else-k-eq0
-returns-else-k-eq0 c = ap Some c.kind_at.ensures ∙ sym (kind_next c.args.file.now c.args.k c.if-k-eq0.false)
+pub returns : goal.returns
+returns c =
+    let m : c.map.result ≡ option_map (kind c.args.file.now) c.checked_sub.result = search rules in
+    m ∙ kind_right_before c.args.file.now c.args.k c.checked_sub.result c.checked_sub.ensures

@@ -1,11 +1,10 @@
-use Rattle.std.proofs.Common.{sym, ap, ◌∙◌}
-use Rattle.dayfile.specs.Bytes.{value}
-use Rattle.explanation.proofs.Standing.{number_first, number_next}
+use Rattle.std.proofs.Common.{◌≡◌, unwrap_or, ◌∙◌, rules}
+use Rattle.std.specs.Option.{option_map}
+use Rattle.dayfile.specs.Files.{number_in}
+use Rattle.explanation.proofs.Standing.{number_right_before}
 use Rattle.explanation.proofs.blocks.number_before.Goals as goal
 
-pub returns-then-k-eq0 : goal.returns-then-k-eq0
-returns-then-k-eq0 c = sym (number_first c.args.file.now c.args.k c.if-k-eq0.true)
-
-pub returns-else-k-eq0 : goal.returns-else-k-eq0
-returns-else-k-eq0 c =
-    c.word_at.ensures ∙ ap (value 4 4) c.block_at.ensures ∙ sym (number_next c.args.file.now c.args.k c.if-k-eq0.false)
+pub returns : goal.returns
+returns c =
+    let m : c.map_or.result ≡ unwrap_or (option_map (number_in c.args.file.now) c.checked_sub.result) 0 = search rules in
+    m ∙ number_right_before c.args.file.now c.args.k c.checked_sub.result c.checked_sub.ensures
