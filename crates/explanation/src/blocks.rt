@@ -30,7 +30,8 @@ pub(crate) fn kind_before(file: &[u8], k: usize) -> Option<u8>
 pub(crate) fn number_before(file: &[u8], k: usize) -> u32
     ensures { result ≡ number_before file.now k }
 {
-    k.checked_sub(1).map_or(0, |last| word_at(block_at(file, last), 4))
+    k.checked_sub(1)
+        .map_or(0, |last| word_at(block_at(file, last), 4))
 }
 
 /// How many of the blocks before block `k` begin with a letter.

@@ -7,7 +7,7 @@ use dayfile::Event;
 use std::fmt;
 
 /// An event that is shown by its name.
-#[derive(Clone, Copy)]
+#[derive(Clone, Copy, Debug, PartialEq, Eq)]
 pub struct EventName(pub Event);
 
 impl fmt::Display for EventName {

@@ -6,7 +6,7 @@ ghost use Rattle.explanation.specs.Misfits.{may_follow, behind, IsFirstMisfit};
 use dayfile::Event;
 
 /// How a Resource stands between two hours, as far as the next event hangs on it.
-#[derive(Clone, Copy)]
+#[derive(Clone, Copy, Debug, PartialEq, Eq)]
 pub enum Status {
     Off,
     Running,
@@ -15,7 +15,7 @@ pub enum Status {
 }
 
 /// An event that may not follow those before it.
-#[derive(Clone, Copy)]
+#[derive(Clone, Copy, Debug, PartialEq, Eq)]
 pub struct Misfit {
     /// From 1.
     pub hour: u8,

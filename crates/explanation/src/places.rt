@@ -6,7 +6,7 @@ use dayfile::Place;
 use std::fmt;
 
 /// A place that is shown with each of its numbers in a line of its own.
-#[derive(Clone, Copy)]
+#[derive(Clone, Copy, Debug, PartialEq, Eq)]
 pub struct PlaceLines(pub Place);
 
 impl fmt::Display for PlaceLines {

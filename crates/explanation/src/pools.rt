@@ -1,12 +1,17 @@
 //! The pools in words.
+ghost use Rattle.std.specs.Prelude.{Some};
+ghost use Rattle.explanation.specs.Texts.{pool_text};
+
 use std::fmt;
 
 /// A pool, from 1, that is shown by its name.
-#[derive(Clone, Copy)]
+#[derive(Clone, Copy, Debug, PartialEq, Eq)]
 pub struct PoolName(pub usize);
 
 /// Its market and what its hours ran for.
 impl fmt::Display for PoolName {
+    ghost output = { λ name. Some (pool_text name.0) };
+
     fn fmt<W: fmt::Write>(&self, f: &mut fmt::Formatter<W>) -> fmt::Result {
         let pool = self.0;
         match pool {

@@ -1,13 +1,22 @@
 //! Findings and layers in words.
+ghost use Rattle.std.specs.Prelude.{Some};
+ghost use Rattle.explanation.specs.Texts.{field_text};
+
 use crate::finding::{Count, FieldName, Finding, NamedField, OwnersRule};
-use dayfile::{LONGEST, Layer};
+use dayfile::{BLOCK, LONGEST, Layer};
 use std::fmt;
 
 /// One sentence: the field or rule, what was found, and what is allowed.
 impl fmt::Display for Finding {
     fn fmt<W: fmt::Write>(&self, f: &mut fmt::Formatter<W>) -> fmt::Result {
         match *self {
-            Finding::Length { bytes } => write_length(bytes, f),
+            Finding::Length { bytes } => {
+                let length = FileLength(bytes);
+                write!(
+                    f,
+                    "the file has {length}; it must have from {BLOCK} to {LONGEST}, a multiple of {BLOCK}"
+                )
+            }
             Finding::Check { stated, computed } => {
                 write!(
                     f,
@@ -36,7 +45,6 @@ impl fmt::Display for Finding {
                 )
             }
             Finding::Rising { name, found, last } => {
-                let name = name.words();
                 write!(
                     f,
                     "the {name} (bytes 4 to 7) is {found}; it must be above {last}, the last one before it"
@@ -52,17 +60,18 @@ impl fmt::Display for Finding {
     }
 }
 
-fn write_length<W: fmt::Write>(bytes: usize, f: &mut fmt::Formatter<W>) -> fmt::Result {
-    if bytes > LONGEST {
-        write!(
-            f,
-            "the file has more than {LONGEST} bytes; it must have from 512 to {LONGEST}, a multiple of 512"
-        )
-    } else {
-        write!(
-            f,
-            "the file has {bytes} bytes; it must have from 512 to {LONGEST}, a multiple of 512"
-        )
+/// How long a file is, as far as the longest that may be.
+#[derive(Clone, Copy)]
+struct FileLength(usize);
+
+impl fmt::Display for FileLength {
+    fn fmt<W: fmt::Write>(&self, f: &mut fmt::Formatter<W>) -> fmt::Result {
+        let bytes = self.0;
+        if bytes > LONGEST {
+            write!(f, "more than {LONGEST} bytes")
+        } else {
+            write!(f, "{bytes} bytes")
+        }
     }
 }
 
@@ -166,13 +175,17 @@ impl fmt::Display for OwnersRule {
 
 impl fmt::Display for NamedField {
     fn fmt<W: fmt::Write>(&self, f: &mut fmt::Formatter<W>) -> fmt::Result {
-        let name = self.name.words();
+        let NamedField {
+            name,
+            rank,
+            byte,
+            width,
+        } = *self;
         write!(f, "the {name}")?;
-        if let Some(series) = self.name.series() {
-            let rank = self.rank;
+        if let Some(series) = name.series() {
             write!(f, " of {series} {rank}")?;
         }
-        write_bytes(self.byte, self.width, f)
+        write_bytes(byte, width, f)
     }
 }
 
@@ -189,10 +202,11 @@ fn write_bytes<W: fmt::Write>(
     }
 }
 
-impl FieldName {
-    /// Its name in words.
-    fn words(self) -> &'static str {
-        match self {
+impl fmt::Display for FieldName {
+    ghost output = { λ name. Some (field_text name) };
+
+    fn fmt<W: fmt::Write>(&self, f: &mut fmt::Formatter<W>) -> fmt::Result {
+        f.write_str(match self {
             FieldName::Date => "date",
             FieldName::Version => "version",
             FieldName::ParticipantCount => "count of participants",
@@ -222,9 +236,11 @@ impl FieldName {
             FieldName::RealTimeLmp => "real-time LMP",
             FieldName::Event => "event",
             FieldName::RealTimeFlag => "real-time flag",
-        }
+        })
     }
+}
 
+impl FieldName {
     /// What its rank counts, if it stands more than once.
     fn series(self) -> Option<&'static str> {
         match self {
