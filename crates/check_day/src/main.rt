@@ -4,7 +4,7 @@
 #![tactic(auto)]
 
 use dayfile::{AdmittedDay, DayRecord, Fault, LONGEST, admit};
-use explanation::{PlaceLines, explain, layer_name};
+use explanation::{PlaceLines, explain};
 use std::io;
 use std::io::Read;
 use std::process::ExitCode;
@@ -46,7 +46,7 @@ fn print_day(rt: &impl Print, day: DayRecord) -> io::Result<()> {
 /// Prints the refusal's number, its layer, what it tells, and the sentence that explains it.
 fn print_refusal(rt: &impl Print, fault: Fault, file: &[u8]) -> io::Result<()> {
     println!(rt; "refused {}", fault.number())?;
-    println!(rt; "layer {}", layer_name(fault.layer()))?;
+    println!(rt; "layer {}", fault.layer())?;
     print!(rt; "{}", PlaceLines(fault.place()))?;
     println!(rt; "{}", explain(fault, file))
 }

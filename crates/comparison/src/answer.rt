@@ -2,8 +2,7 @@
 use crate::book::Case;
 use crate::digest::Digest;
 use dayfile::{
-    AdmittedDay, BLOCK, DayRecord, Fault, Layer, Place, Record, admit, read_block, write_day,
-    write_record,
+    AdmittedDay, BLOCK, DayRecord, Fault, Place, Record, admit, read_block, write_day, write_record,
 };
 use std::fmt;
 
@@ -25,28 +24,28 @@ pub enum Answer {
     Written {
         digest: u32,
     },
-    Refused(Fault),
 }
 
+/// Why the engine refuses a case; shown by its number, layer and place.
+#[derive(Clone, Copy)]
+pub struct Refusal(pub Fault);
+
 /// Puts a case to the engine; `out` is room for what it writes.
-pub fn answer_case(case: &Case, out: &mut [u8]) -> Answer {
+pub fn answer_case(case: &Case, out: &mut [u8]) -> Result<Answer, Fault> {
     match case {
         Case::File(file) => answer_file(file.as_slice(), out),
         Case::Block(block) => answer_block(block.as_slice()),
         Case::Record { record, room } => answer_record(record, *room, out),
     }
-    .unwrap_or_else(Answer::Refused)
 }
 
 /// Admits a file, takes in its records and writes the day back.
 fn answer_file(file: &[u8], out: &mut [u8]) -> Result<Answer, Fault> {
     let mut day = AdmittedDay::built_in();
     admit(file, &mut day)?;
-    let mut digest = Digest::new();
-    for k in 0..day.blocks() {
-        if let Some(record) = day.record(k) {
-            digest.add(&record);
-        }
+    let mut digest = Digest::default();
+    for block in &day {
+        digest.add(&block.record());
     }
     write_day(&day, out)?;
     Ok(Answer::Accepted {
@@ -60,7 +59,7 @@ fn answer_file(file: &[u8], out: &mut [u8]) -> Result<Answer, Fault> {
 fn answer_block(block: &[u8]) -> Result<Answer, Fault> {
     let block = <&[u8; BLOCK]>::try_from(block).map_err(|_| Fault::Length)?;
     let record = read_block(block)?.record();
-    let mut digest = Digest::new();
+    let mut digest = Digest::default();
     digest.add(&record);
     Ok(Answer::Shows {
         kind: letter_of(&record),
@@ -82,7 +81,7 @@ fn letter_of(record: &Record) -> char {
 fn answer_record(record: &Record, room: usize, out: &mut [u8]) -> Result<Answer, Fault> {
     let room = room.min(out.len());
     write_record(record, &mut out[..room])?;
-    let mut digest = Digest::new();
+    let mut digest = Digest::default();
     digest.add_all(&out[..room.min(BLOCK)]);
     Ok(Answer::Written {
         digest: digest.value,
@@ -107,33 +106,19 @@ impl fmt::Display for Answer {
             }
             Answer::Shows { kind, digest } => write!(f, "shows {kind} {digest}"),
             Answer::Written { digest } => write!(f, "written {digest}"),
-            Answer::Refused(fault) => write_refusal(fault, f),
         }
     }
 }
 
-/// Writes a refusal's number, layer and place.
-fn write_refusal<W: fmt::Write>(fault: Fault, f: &mut fmt::Formatter<W>) -> fmt::Result {
-    write!(
-        f,
-        "refused {} {}",
-        fault.number(),
-        layer_name(fault.layer())
-    )?;
-    match fault.place() {
-        Place::Block { block } => write!(f, " {block}"),
-        Place::Field { block, byte } => write!(f, " {block} {byte}"),
-        Place::Byte { byte } => write!(f, " {byte}"),
-        _ => Ok(()),
-    }
-}
-
-fn layer_name(layer: Layer) -> &'static str {
-    match layer {
-        Layer::File => "file",
-        Layer::Block => "block",
-        Layer::End => "end",
-        Layer::Writing => "writing",
-        _ => "other",
+impl fmt::Display for Refusal {
+    fn fmt<W: fmt::Write>(&self, f: &mut fmt::Formatter<W>) -> fmt::Result {
+        let fault = self.0;
+        write!(f, "refused {} {}", fault.number(), fault.layer())?;
+        match fault.place() {
+            Place::Block { block } => write!(f, " {block}"),
+            Place::Field { block, byte } => write!(f, " {block} {byte}"),
+            Place::Byte { byte } => write!(f, " {byte}"),
+            _ => Ok(()),
+        }
     }
 }

@@ -47,7 +47,7 @@ fn read_bytes(book: &mut Reader<'_>, alloc: Global) -> Result<Vec<u8>, BadBook> 
 /// Writes a patch over bytes.
 fn read_patch(book: &mut Reader<'_>, bytes: &mut [u8]) -> Result<(), BadBook> {
     let at = book.word()? as usize;
-    let length = book.half()? as usize;
+    let length = usize::from(book.half()?);
     let patch = book.take(length)?;
     bytes
         .get_mut(at..at + patch.len())
@@ -59,7 +59,7 @@ fn read_patch(book: &mut Reader<'_>, bytes: &mut [u8]) -> Result<(), BadBook> {
 /// A record and the room that it is offered.
 fn read_offer(book: &mut Reader<'_>) -> Result<Case, BadBook> {
     let kind = book.byte()?;
-    let room = book.half()? as usize;
+    let room = usize::from(book.half()?);
     let record = read_record(book, kind)?;
     Ok(Case::Record { record, room })
 }

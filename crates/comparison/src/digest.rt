@@ -5,16 +5,12 @@ use dayfile::{
 };
 
 /// What the values so far make.
-#[derive(Clone, Copy)]
+#[derive(Clone, Copy, Default)]
 pub struct Digest {
     pub value: u32,
 }
 
 impl Digest {
-    pub fn new() -> Digest {
-        Digest { value: 0 }
-    }
-
     /// Takes in the values of a record, or of a part of one.
     pub fn add<T: Digested>(&mut self, part: &T) {
         part.add_to(self);

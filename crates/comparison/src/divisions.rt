@@ -20,14 +20,13 @@ struct Division {
 impl Entry for Division {
     fn read(book: &mut Reader<'_>, alloc: Global) -> Result<Division, BadBook> {
         let cents = book.long()?;
-        let count = book.half()? as usize;
+        let count = usize::from(book.half()?);
         if count > MOST {
             return Err(BadBook::Length(count));
         }
-        let mut portions = Vec::new(alloc);
-        for _weight in 0..count {
-            portions.push(Portion::new((), book.word()?))?;
-        }
+        let portions = (0..count)
+            .map(|_| -> Result<Portion<()>, BadBook> { Ok(Portion::new((), book.word()?)) })
+            .try_collect(alloc)?;
         Ok(Division { cents, portions })
     }
 }
@@ -39,8 +38,9 @@ pub fn divide_all(divisions: &[u8], alloc: Global, text: &mut String) -> anyhow:
         .take(divisions.len())
         .enumerate()
     {
+        let division = division?;
         write!(text, "division {number}")?;
-        write_shares(division?, text)?;
+        write_shares(division, text)?;
     }
     Ok(())
 }

@@ -9,7 +9,7 @@ mod entries;
 mod reader;
 mod values;
 
-use answer::answer_case;
+use answer::{Refusal, answer_case};
 use book::{Case, LONGEST};
 use divisions::divide_all;
 use entries::Entries;
@@ -44,8 +44,10 @@ fn answer_all(cases: &[u8], alloc: Global, lines: &mut String) -> anyhow::Result
         .take(cases.len())
         .enumerate()
     {
-        let answer = answer_case(&case?, out.as_mut_slice());
-        writeln!(lines, "{number} {answer}")?;
+        match answer_case(&case?, out.as_mut_slice()) {
+            Ok(answer) => writeln!(lines, "{number} {answer}")?,
+            Err(fault) => writeln!(lines, "{number} {}", Refusal(fault))?,
+        }
     }
     Ok(())
 }

@@ -1,7 +1,7 @@
 //! Refusals: the number on standard output, the place and the reason on standard error.
 use credits::{Grid, hourly_allocation};
 use dayfile::{AdmittedDay, Fault, Place, Record};
-use explanation::{PlaceLines, PoolName, explain, first_misfit, layer_name};
+use explanation::{PlaceLines, PoolName, explain, first_misfit};
 use std::io;
 
 /// The most that a pool may cost in a day, in cents.
@@ -23,7 +23,7 @@ pub fn refuse_credits(
     tell_fault(rt, fault)?;
     match fault {
         Fault::Event { block, .. } => tell_event(rt, day, block),
-        Fault::PoolCost { pool } => tell_cost(rt, day, pool as usize),
+        Fault::PoolCost { pool } => tell_cost(rt, day, usize::from(pool)),
         _ => tell_place(rt, fault.place()),
     }
 }
@@ -46,7 +46,7 @@ pub fn refuse_grid(
 /// Tells the refusal's number and its layer.
 fn tell_fault(rt: &(impl Print + Eprint), fault: Fault) -> io::Result<()> {
     println!(rt; "refused {}", fault.number())?;
-    eprintln!(rt; "layer {}", layer_name(fault.layer()))
+    eprintln!(rt; "layer {}", fault.layer())
 }
 
 /// Tells what a refusal says besides, a line for each number.
@@ -82,9 +82,9 @@ fn tell_cost(rt: &impl Eprint, day: &AdmittedDay<'_>, pool: usize) -> io::Result
 
 /// What the hours of all Resources bring into a pool.
 fn cost_of(day: &AdmittedDay<'_>, pool: usize) -> u64 {
-    (0..day.blocks())
-        .map(|block| match day.record(block) {
-            Some(Record::Resource(resource)) => cost_of_resource(day, resource.number, pool),
+    day.iter()
+        .map(|block| match block.record() {
+            Record::Resource(resource) => cost_of_resource(day, resource.number, pool),
             _ => 0,
         })
         .fold(0, u64::saturating_add)
@@ -103,8 +103,7 @@ fn cost_of_resource(day: &AdmittedDay<'_>, number: u32, pool: usize) -> u64 {
 
 /// The real-time block of a Resource, if the day has one.
 fn real_time_block(day: &AdmittedDay<'_>, number: u32) -> Option<usize> {
-    (0..day.blocks()).find(|block| match day.record(*block) {
-        Some(Record::RealTime(real_time)) => real_time.number == number,
-        _ => false,
-    })
+    day.iter().position(
+        |block| matches!(block.record(), Record::RealTime(real_time) if real_time.number == number),
+    )
 }

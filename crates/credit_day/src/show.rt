@@ -1,5 +1,5 @@
 //! Credits and grids as lines.
-use credits::{Credits, Grid, POOLS, PoolAmounts};
+use credits::{Credits, Grid, PoolAmounts};
 use dayfile::DayRecord;
 use std::io;
 
@@ -16,9 +16,8 @@ pub fn print_credits(rt: &impl Print, day: DayRecord, credits: &Credits) -> io::
 
 /// Prints the amounts above 0 of a row, each behind the row's number and its pool.
 fn print_row(rt: &impl Print, number: u32, amounts: &PoolAmounts) -> io::Result<()> {
-    for pool in 1..=POOLS {
-        let cents = amounts.in_pool(pool);
-        if cents > 0 {
+    for (pool, cents) in (1u32..).zip(&amounts.cents) {
+        if *cents > 0 {
             println!(rt; "{number} {pool} {cents}")?;
         }
     }
