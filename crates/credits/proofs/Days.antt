@@ -20,8 +20,7 @@ use Rattle.dayfile.specs.Days.{records, records_from, record_at}
 use Rattle.dayfile.specs.Keeping.{ResourceKept}
 use Rattle.dayfile.specs.WellFormed.{Generator, generator_records, day_records, Formed}
 use Rattle.dayfile.specs.WellFormed as well
-use Rattle.credits.specs.declared.resource.ResourceDay.{ResourceDay}
-use Rattle.credits.specs.Resources.{Kept, OwnRealTimeKept, resource_first, of_resource, real_time_first, in_front, resources_from, resources_of}
+use Rattle.credits.specs.Resources.{ResourceDay, Kept, OwnRealTimeKept, resource_first, of_resource, real_time_first, in_front, resources_from, resources_of}
 use Rattle.credits.specs.Crediting.{participants_in, participants_of}
 
 -- a file has a record for each block
@@ -229,6 +228,16 @@ module _ (f : List ℕ) (w : Formed f) where
   pub resources_kept_few : AllByRecursion (Kept 48) (resources_of f)
   resources_kept_few = All-weaker (Kept (length (participants_of f))) (Kept 48) (kept_higher (length (participants_of f)) 48 (participants_few f w)) (resources_of f) resources_kept
 
+-- a file has no more Resources than blocks
+resources_few : (k : ℕ) (rs : List Record) → length (resources_from k rs) ≤ length rs
+unfolding resources_from
+resources_few k [] = omega arith
+resources_few k (r ∷ rs) = omega (arith, one_more (resource_first k (r ∷ rs)) (resources_from (k + 1) rs), resources_few (k + 1) rs)
+  where
+    one_more : (o : Option ResourceDay) (xs : List ResourceDay) → length (in_front o xs) ≤ length xs + 1
+    one_more None xs = omega arith
+    one_more (Some x) xs = omega arith
+
 -- what holds of the Resources of a file holds of one that block k opens
 in_front_parts : {A : Type 0} (P : A → Type 0) (o : Option A) (xs : List A) → AllByRecursion P (in_front o xs) → IfSome o P × AllByRecursion P xs
 in_front_parts P None xs h = (tt, h)
@@ -253,3 +262,6 @@ day_formed x = formed x.file.now x.bytes (ap answer (accepted_none x.file.now x.
 
 pub day_short : (x : AdmittedDay) → blocks x.file.now ≤ 128
 day_short x = let p = passed x.file.now (accepted_none x.file.now x.kept) in omega (arith, p.short)
+
+pub day_resources : (x : AdmittedDay) → length (resources_of x.file.now) ≤ 128
+day_resources x = omega (arith, day_short x, length_records x.file.now, resources_few 0 (records x.file.now))

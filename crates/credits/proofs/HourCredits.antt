@@ -12,9 +12,8 @@ use Rattle.dayfile.specs.Keeping.{ResourceKept}
 use Rattle.credits.specs.declared.owner.OwnerShare.{OwnerShare}
 use Rattle.credits.specs.declared.pool.Market.{Market}
 use Rattle.credits.specs.declared.pool.Market.TheVariants.{DayAhead, RealTime}
-use Rattle.credits.specs.declared.resource.ResourceDay.{ResourceDay}
 use Rattle.credits.specs.Pools.{pool_of}
-use Rattle.credits.specs.Resources.{Kept}
+use Rattle.credits.specs.Resources.{ResourceDay, Kept}
 use Rattle.credits.specs.Grids.{market_cents, market_flag, market_pool, cell}
 use Rattle.credits.specs.Owning.{owner_places, owner_parts, owned_cents, of_owner}
 use Rattle.credits.proofs.Sharing.{owned_nothing}

@@ -10,6 +10,7 @@ pub mod Blocks
 pub mod Worths
 pub mod Totals
 pub mod Made
+pub mod Finding
 pub mod Rows
 pub mod Columns
 pub mod Sharing

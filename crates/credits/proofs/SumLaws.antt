@@ -16,13 +16,12 @@ use Rattle.division.proofs.FairLaws.{divided_fair, length_divided}
 use Rattle.credits.specs.declared.share.HourShare.{HourShare}
 use Rattle.credits.specs.declared.pool.Market.{Market}
 use Rattle.credits.specs.declared.pool.Market.TheVariants.{DayAhead, RealTime}
-use Rattle.credits.specs.declared.resource.ResourceDay.{ResourceDay}
 use Rattle.credits.specs.Sums.{total}
 use Rattle.credits.specs.Allotments.{even, weight, weights, claimed, allotted}
 use Rattle.credits.specs.DayAhead.{day_ahead_millicents, day_ahead_share, day_ahead_shares, day_ahead_cents}
 use Rattle.credits.specs.RealTime.{real_time_millicents, real_time_share, real_time_shares, real_time_cents}
 use Rattle.credits.specs.Pools.{pool_of}
-use Rattle.credits.specs.Resources.{OwnRealTimeKept, Kept, resources_of}
+use Rattle.credits.specs.Resources.{ResourceDay, OwnRealTimeKept, Kept, resources_of}
 use Rattle.credits.specs.Grids.{market_cents, market_flag, market_pool, entered, cell}
 use Rattle.credits.specs.Owning.{owner_places, owner_parts, owners_of, got, owned_cents}
 use Rattle.credits.specs.Crediting.{participants_of, resource_credit, resource_cost, credit_of, pool_cost}

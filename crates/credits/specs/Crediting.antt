@@ -11,9 +11,8 @@ use Rattle.dayfile.specs.Writing.{Done}
 use Rattle.credits.specs.declared.amounts.PoolAmounts.{PoolAmounts}
 use Rattle.credits.specs.declared.grid.Grid.{Grid}
 use Rattle.credits.specs.declared.credits.Credits.{Credits}
-use Rattle.credits.specs.declared.resource.ResourceDay.{ResourceDay}
 use Rattle.credits.specs.Sums.{total}
-use Rattle.credits.specs.Resources.{resources_of, numbered}
+use Rattle.credits.specs.Resources.{ResourceDay, resources_of, numbered}
 use Rattle.credits.specs.Grids.{cell, by_pool, grid_of, stopped, amount}
 use Rattle.credits.specs.Owning.{owner_places, owner_parts, owned_cents}
 

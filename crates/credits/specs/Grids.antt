@@ -3,12 +3,12 @@ use Rattle.std.specs.Prelude.{◌≡◌, ℕ, ◌+◌, ◌-◌, ◌<◌, ◌≤�
 use Rattle.std.specs.List.{AllByRecursion, range_with_len}
 use Rattle.dayfile.specs.declared.record.Flag.{Flag}
 use Rattle.dayfile.specs.declared.record.Flag.TheVariants.{Economic}
+use Rattle.credits.specs.Resources.{ResourceDay}
 use Rattle.credits.specs.declared.pool.Market.{Market}
 use Rattle.credits.specs.declared.pool.Market.TheVariants.{DayAhead, RealTime}
 use Rattle.credits.specs.declared.amounts.PoolAmounts.{PoolAmounts}
 use Rattle.credits.specs.declared.grid.Grid.{Grid}
 use Rattle.credits.specs.declared.hourly.HourlyCents.{HourlyCents}
-use Rattle.credits.specs.declared.resource.ResourceDay.{ResourceDay}
 use Rattle.credits.specs.Pools.{pool_of}
 use Rattle.credits.specs.DayAhead.{day_ahead_cents}
 use Rattle.credits.specs.RealTime.{forbidden_hour, real_time_cents}

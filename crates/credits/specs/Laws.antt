@@ -5,13 +5,12 @@ use Rattle.dayfile.specs.declared.record.ResourceRecord.{ResourceRecord}
 use Rattle.dayfile.specs.declared.record.RealTimeRecord.{RealTimeRecord}
 use Rattle.credits.specs.declared.pool.Market.{Market}
 use Rattle.credits.specs.declared.pool.Market.TheVariants.{DayAhead, RealTime}
-use Rattle.credits.specs.declared.resource.ResourceDay.{ResourceDay}
 use Rattle.credits.specs.Sums.{total}
 use Rattle.credits.specs.Allotments.{claimed}
 use Rattle.credits.specs.DayAhead.{day_ahead_millicents, day_ahead_shares, DayAheadByBlocks}
 use Rattle.credits.specs.RealTime.{real_time_millicents, real_time_shares}
 use Rattle.credits.specs.Periods.{RealTimeByPeriods}
-use Rattle.credits.specs.Resources.{resources_of}
+use Rattle.credits.specs.Resources.{ResourceDay, resources_of}
 use Rattle.credits.specs.Grids.{market_cents, cell}
 use Rattle.credits.specs.Owning.{owner_places, owner_parts, owned_cents}
 use Rattle.credits.specs.Crediting.{participants_of, credit_of, pool_cost}

@@ -1,13 +1,19 @@
 -- The Resources of a day, each with its real-time record if it has one.
-use Rattle.std.specs.Prelude.{ℕ, ◌+◌, Bool, true, false, cond, List, [], ◌∷◌, Some, None, Option, ◌==◌}
+use Rattle.std.specs.Prelude.{ℕ, ◌+◌, ◌<◌, Bool, true, false, cond, List, [], ◌∷◌, drop, Some, None, Option, ◌==◌}
 use Rattle.dayfile.specs.declared.block.Block.{Block}
 use Rattle.dayfile.specs.declared.block.Block.TheVariants.{Day as DayBlock, Participant as ParticipantBlock, Resource as ResourceBlock, RealTime as RealTimeBlock}
 use Rattle.dayfile.specs.declared.record.Record.{Record}
 use Rattle.dayfile.specs.declared.record.Record.TheVariants.{Day, Participant, Resource, RealTime}
+use Rattle.dayfile.specs.declared.record.ResourceRecord.{ResourceRecord}
 use Rattle.dayfile.specs.declared.record.RealTimeRecord.{RealTimeRecord}
 use Rattle.dayfile.specs.Keeping.{ResourceKept, RealTimeKept}
 use Rattle.dayfile.specs.Days.{records}
-use Rattle.credits.specs.declared.resource.ResourceDay.{ResourceDay}
+
+-- A RESOURCE OF A DAY: its block's number, its record, and its real-time record, if it has one
+pub record ResourceDay : Type 0 where
+  pub block : ℕ
+  pub resource : ResourceRecord
+  pub real_time : Option RealTimeRecord
 
 -- the real-time record at the front of records, if one stands there
 abbrev pub real_time_first : List Record → Option RealTimeRecord
@@ -46,6 +52,10 @@ resources_from k (r ∷ rs) = in_front (resource_first k (r ∷ rs)) (resources_
 abbrev pub resources_of : List ℕ → List ResourceDay
 resources_of f = resources_from 0 (records f)
 
+-- those from block k on
+abbrev pub resources_behind : ℕ → List ℕ → List ResourceDay
+resources_behind k f = resources_from k (drop k (records f))
+
 -- the first Resource of a number
 unfoldable pub numbered : ℕ → List ResourceDay → Option ResourceDay
 numbered n [] = None
@@ -59,3 +69,8 @@ OwnRealTimeKept (Some r) = RealTimeKept r
 pub record Kept (limit : ℕ) (x : ResourceDay) : Type 0 where
   pub resource : ResourceKept limit x.resource
   pub real_time : OwnRealTimeKept x.real_time
+
+-- a Resource of an admitted day: it keeps its limits, and its block is one of at most 128
+pub record Admitted (x : ResourceDay) : Type 0 where
+  pub kept : Kept 48 x
+  pub block_few : x.block < 128

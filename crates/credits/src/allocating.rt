@@ -1,7 +1,7 @@
 //! The hourly grid of a Resource.
 ghost use Rattle.std.specs.Prelude.{◌≡◌, ◌<◌, ◌≤◌, replicate};
 ghost use Rattle.std.specs.List.{AllByRecursion};
-ghost use Rattle.credits.specs.Resources.{Kept, resources_of};
+ghost use Rattle.credits.specs.Resources.{resources_of};
 ghost use Rattle.credits.specs.Grids.{market_flag, market_pool, cell, by_pool, grid_of, Allotted};
 ghost use Rattle.credits.specs.Crediting.{Allocates};
 ghost use Rattle.credits.specs.Laws.{LawfulCredits};
@@ -19,7 +19,7 @@ use std::array;
 impl ResourceDay {
     /// The flag of an hour; without a real-time record a real-time hour is economic, and gets nothing.
     fn flag(&self, market: Market, hour: usize) -> Flag
-        requires { (hour < 24) × (Kept 48 self.now) }
+        requires { hour < 24 }
         ensures { result ≡ market_flag market self.now hour }
     {
         match (market, &self.real_time) {
@@ -31,7 +31,7 @@ impl ResourceDay {
 
     /// The pool of an hour.
     pub(crate) fn pool(&self, market: Market, hour: usize) -> Pool
-        requires { (hour < 24) × (Kept 48 self.now) }
+        requires { hour < 24 }
         ensures { result.number ≡ market_pool market self.now hour }
     {
         market.pool(self.flag(market, hour), self.resource.region)
@@ -51,7 +51,7 @@ impl Grid {
 
 /// An hour's cents in each pool.
 fn hour_row(unit: &ResourceDay, cents: &HourlyCents, hour: usize) -> PoolAmounts
-    requires { (hour < 24) × ((Kept 48 unit.now) × (Allotted unit.now cents.now)) }
+    requires { (hour < 24) × (Allotted unit.now cents.now) }
     ensures { result ≡ by_pool (cell unit.now hour) }
 {
     let mut row = PoolAmounts::none();
@@ -62,7 +62,7 @@ fn hour_row(unit: &ResourceDay, cents: &HourlyCents, hour: usize) -> PoolAmounts
 
 /// The grid of a Resource.
 fn grid_of(unit: &ResourceDay, cents: &HourlyCents) -> Grid
-    requires { (Kept 48 unit.now) × (Allotted unit.now cents.now) }
+    requires { Allotted unit.now cents.now }
     ensures { result ≡ grid_of unit.now }
 {
     Grid {
@@ -76,12 +76,8 @@ pub fn hourly_allocation(day: &AdmittedDay<'_>, resource: u32, grid: &mut Grid) 
     ensures outcome { Allocates day.now.file.now resource grid.old result grid.new }
     ensures lawful { AllByRecursion LawfulCredits (resources_of day.now.file.now) }
 {
-    let Some(found) = find_resource(day, resource) else {
-        return Err(Fault::NoResource);
-    };
-    let Ok(cents) = allocate(&found) else {
-        return Err(Fault::GridEvent);
-    };
+    let found = find_resource(day, resource).ok_or(Fault::NoResource)?;
+    let cents = allocate(&found).map_err(|_| Fault::GridEvent)?;
     *grid = grid_of(&found, &cents);
     Ok(())
 }

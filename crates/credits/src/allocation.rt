@@ -1,7 +1,6 @@
 //! A Resource's cents in each hour of both markets.
 ghost use Rattle.std.specs.Prelude.{◌≡◌, ◌≤◌, Some, None, MatchResult};
 ghost use Rattle.std.specs.List.{AllByRecursion};
-ghost use Rattle.credits.specs.Resources.{Kept};
 ghost use Rattle.credits.specs.Grids.{stopped, Allotted};
 
 use crate::day_ahead::allocate_day_ahead;
@@ -11,7 +10,6 @@ use crate::resource::ResourceDay;
 
 /// The cents of each hour in both markets, or the hour, from 1, whose event may not follow those before it.
 pub(crate) fn allocate(unit: &ResourceDay) -> Result<HourlyCents, u8>
-    requires { Kept 48 unit.now }
     ensures { MatchResult result (λ c. (stopped unit.now ≡ None) × Allotted unit.now c) (λ h. stopped unit.now ≡ Some h) }
 {
     let real_time = match &unit.real_time {

@@ -1,7 +1,7 @@
 //! The credits of a day.
 ghost use Rattle.std.specs.Prelude.{◌≡◌, ℕ, ◌+◌, ◌^◌, ◌<◌, ◌≤◌, map, length, replicate, Some, None, OnOk, slice_index};
 ghost use Rattle.std.specs.List.{range_with_len, AllByRecursion};
-ghost use Rattle.credits.specs.Resources.{Kept, resources_of};
+ghost use Rattle.credits.specs.Resources.{resources_of};
 ghost use Rattle.credits.specs.Grids.{stopped, Allotted, amount, Below};
 ghost use Rattle.dayfile.specs.Files.{answer as refused_by};
 ghost use Rattle.credits.specs.Crediting.{participants_of, resource_credit, credit_of, event_fault, first_event_fault, cost_fault, column, no_credits, CreditsDay};
@@ -15,7 +15,7 @@ use crate::owner::OwnerShare;
 use crate::owners::share_out;
 use crate::pool::Market;
 use crate::resource::ResourceDay;
-use crate::resources::resource_at;
+use crate::resources::resources;
 use crate::table::Table;
 use dayfile::{AdmittedDay, Fault, Record};
 use std::array;
@@ -38,7 +38,7 @@ impl Credits {
 
 /// Adds a Resource's credits to its owners' places, hour by hour.
 fn credit_hours(unit: &ResourceDay, cents: &HourlyCents, amounts: &mut Table)
-    requires resource { (Kept 48 unit.now) × (Allotted unit.now cents.now) }
+    requires allotted { Allotted unit.now cents.now }
     requires below { Below 100000000000000000 amounts.old.rows }
     ensures grown { (most : ℕ) → Below most amounts.old.rows → Below (most + 4800000000000) amounts.new.rows }
     ensures credited { (i p : ℕ) → i < 48 → 1 ≤ p → p ≤ 21 → amount amounts.new.rows i p ≡ amount amounts.old.rows i p + resource_credit i p unit.now }
@@ -64,22 +64,15 @@ fn credit_hours(unit: &ResourceDay, cents: &HourlyCents, amounts: &mut Table)
 
 /// Adds a Resource's credits, or tells the hour whose event may not follow.
 fn credit_resource(unit: &ResourceDay, amounts: &mut Table) -> Result<(), Fault>
-    requires resource { (Kept 48 unit.now) × (unit.now.block < 2 ^ 32) }
-    requires below { Below 100000000000000000 amounts.old.rows }
+    requires { Below 100000000000000000 amounts.old.rows }
     ensures answer { result ≡ refused_by (event_fault unit.now) }
     ensures grown { (most : ℕ) → Below most amounts.old.rows → Below (most + 4800000000000) amounts.new.rows }
     ensures credited { OnOk result ((i p : ℕ) → i < 48 → 1 ≤ p → p ≤ 21 → amount amounts.new.rows i p ≡ amount amounts.old.rows i p + resource_credit i p unit.now) }
 {
-    match allocate(unit) {
-        Ok(cents) => {
-            credit_hours(unit, &cents, amounts);
-            Ok(())
-        }
-        Err(hour) => Err(Fault::Event {
-            block: unit.block + 1,
-            hour,
-        }),
-    }
+    let block = unit.block + 1;
+    let cents = allocate(unit).map_err(|hour| Fault::Event { block, hour })?;
+    credit_hours(unit, &cents, amounts);
+    Ok(())
 }
 
 /// Adds the credits of all Resources.
@@ -89,10 +82,8 @@ fn credit_resources(day: &AdmittedDay<'_>, amounts: &mut Table) -> Result<(), Fa
     ensures below { Below 1000000000000000 amounts.new.rows }
     ensures credited { OnOk result ((i p : ℕ) → i < 48 → 1 ≤ p → p ≤ 21 → amount amounts.new.rows i p ≡ credit_of day.now.file.now i p) }
 {
-    for k in 0..day.blocks() {
-        if let Some(unit) = resource_at(day, k) {
-            credit_resource(&unit, amounts)?;
-        }
+    for unit in resources(day) {
+        credit_resource(&unit, amounts)?;
     }
     Ok(())
 }

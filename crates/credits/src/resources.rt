@@ -1,9 +1,9 @@
 //! The Resources of an admitted day.
-ghost use Rattle.std.specs.Prelude.{◌≡◌, ◌^◌, ◌<◌, length, drop, is_some, IfSome};
+ghost use Rattle.std.specs.Prelude.{◌≡◌, ◌<◌, drop, is_some};
+ghost use Rattle.std.specs.Iterator.{YieldsFirst, item_count};
 ghost use Rattle.std.specs.List.{AllByRecursion};
 ghost use Rattle.dayfile.specs.Days.{records};
-ghost use Rattle.credits.specs.Resources.{real_time_first, resource_first, of_resource, resources_of, numbered, Kept};
-ghost use Rattle.credits.specs.Crediting.{participants_of};
+ghost use Rattle.credits.specs.Resources.{real_time_first, resource_first, of_resource, resources_of, resources_behind, numbered};
 ghost use Rattle.credits.specs.Laws.{LawfulCredits};
 
 use crate::resource::ResourceDay;
@@ -40,11 +40,9 @@ fn opens_resource(day: &AdmittedDay<'_>, k: usize) -> bool
 }
 
 /// The Resource that block `k` opens, if it opens one.
-pub(crate) fn resource_at(day: &AdmittedDay<'_>, k: usize) -> Option<ResourceDay>
-    requires { k < 2 ^ 32 }
-    ensures value { result ≡ resource_first k (drop k (records day.now.file.now)) }
-    ensures kept { IfSome result (Kept (length (participants_of day.now.file.now))) }
-    ensures few { IfSome result (Kept 48) }
+fn resource_at(day: &AdmittedDay<'_>, k: usize) -> Option<ResourceDay>
+    requires { k < 128 }
+    ensures { result ≡ resource_first k (drop k (records day.now.file.now)) }
 {
     if !opens_resource(day, k) {
         return None;
@@ -59,18 +57,42 @@ pub(crate) fn resource_at(day: &AdmittedDay<'_>, k: usize) -> Option<ResourceDay
     }
 }
 
+/// The Resources of a day, in its order.
+#[derive(Drop)]
+pub(crate) struct ResourceIter<'d> {
+    day: &'d AdmittedDay<'d>,
+    block: usize,
+}
+
+impl<'d> Iterator for ResourceIter<'d> {
+    type Item = ResourceDay;
+
+    ghost next_gives = { YieldsFirst (λ s. resources_behind s.block s.day.now.file.now) };
+
+    ghost remaining = { item_count (λ s. resources_behind s.block s.day.now.file.now) };
+
+    fn next(&mut self) -> Option<ResourceDay> {
+        for k in self.block..self.day.blocks() {
+            if let Some(unit) = resource_at(self.day, k) {
+                self.block = k + 1;
+                return Some(unit);
+            }
+        }
+        None
+    }
+}
+
+/// Goes over the Resources of a day.
+pub(crate) fn resources<'d>(day: &'d AdmittedDay<'_>) -> ResourceIter<'d>
+    ensures { (result.block ≡ 0) × (result.day.now ≡ day.now) }
+{
+    ResourceIter { day, block: 0 }
+}
+
 /// The Resource of a number, if the day has it.
 pub(crate) fn find_resource(day: &AdmittedDay<'_>, number: u32) -> Option<ResourceDay>
     ensures value { result ≡ numbered number (resources_of day.now.file.now) }
-    ensures kept { IfSome result (Kept 48) }
     ensures lawful { AllByRecursion LawfulCredits (resources_of day.now.file.now) }
 {
-    for k in 0..day.blocks() {
-        if let Some(found) = resource_at(day, k) {
-            if found.resource.number == number {
-                return Some(found);
-            }
-        }
-    }
-    None
+    resources(day).find(|unit| unit.number() == number)
 }

@@ -2,9 +2,9 @@ use Rattle.std.proofs.Common.{◌≡◌, ℕ, ◌+◌, ◌-◌, ◌≤◌, cond,
 use mathlib.Core.Path.{fun_ext}
 use Rattle.std.specs.List.{range_with_len}
 use Rattle.std.proofs.lemmas.Bool.{cond_both}
+use Rattle.credits.specs.Resources.{ResourceDay}
 use Rattle.credits.specs.declared.pool.Market.TheVariants.{DayAhead, RealTime}
 use Rattle.credits.specs.declared.hourly.HourlyCents.{HourlyCents}
-use Rattle.credits.specs.declared.resource.ResourceDay.{ResourceDay}
 use Rattle.credits.specs.Grids.{market_pool, cell, Allotted}
 use Rattle.credits.proofs.Cells.{get_or_small, get_or_pool, pool_added_to}
 use Rattle.credits.proofs.allocating.hour_row.Goals as goal
@@ -41,7 +41,7 @@ add-requires c =
     omega (
       arith,
       none_at p.number p.from_one p.few c.none-row.result.cents c.none-row.ensures,
-      get_or_small 100000000000 c.args.cents.now.day_ahead c.args.hour c.requires.1.1.day_ahead_small,
+      get_or_small 100000000000 c.args.cents.now.day_ahead c.args.hour c.requires.1.day_ahead_small,
     )
 
 pub add-requires-2 : goal.add-requires-2
@@ -52,8 +52,8 @@ add-requires-2 c =
       arith,
       once_small p.number (get_or c.args.cents.now.day_ahead c.args.hour 0) p.from_one p.few
           c.none-row.result.cents c.add.new.self.cents c.none-row.ensures c.add.ensures.value q.number q.from_one q.few,
-      get_or_small 100000000000 c.args.cents.now.day_ahead c.args.hour c.requires.1.1.day_ahead_small,
-      get_or_small 100000000000 c.args.cents.now.real_time c.args.hour c.requires.1.1.real_time_small,
+      get_or_small 100000000000 c.args.cents.now.day_ahead c.args.hour c.requires.1.day_ahead_small,
+      get_or_small 100000000000 c.args.cents.now.real_time c.args.hour c.requires.1.real_time_small,
     )
 
 pub returns : goal.returns
@@ -64,4 +64,4 @@ returns c =
     let n = get_or c.args.cents.now.real_time c.args.hour 0 in
     let once = once_is p.number m p.from_one p.few c.none-row.result.cents c.add.new.self.cents c.none-row.ensures c.add.ensures.value in
     let twice = pool_added_to 21 (lone p.number m) q.number q.from_one q.few n c.add.new.self.cents c.add-2.new.self.cents once c.add-2.ensures.value in
-    ap (λ xs. record { cents = xs }) (twice ∙ ap (λ g. map g (range_with_len 1 21)) (fun_ext (cells c.args.unit.now c.args.hour c.args.cents.now p.number q.number c.requires.1.1 c.pool.ensures c.pool-2.ensures)))
+    ap (λ xs. record { cents = xs }) (twice ∙ ap (λ g. map g (range_with_len 1 21)) (fun_ext (cells c.args.unit.now c.args.hour c.args.cents.now p.number q.number c.requires.1 c.pool.ensures c.pool-2.ensures)))

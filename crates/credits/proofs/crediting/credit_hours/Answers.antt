@@ -1,6 +1,7 @@
-use Rattle.std.proofs.Common.{◌≡◌, ◌+◌, map, get_or, take, refl, ap, ◌∙◌, arith, rules}
+use Rattle.std.proofs.Common.{◌≡◌, ◌+◌, map, get_or, take, refl, ap, ◌∙◌, subst, arith, rules}
 use Rattle.credits.specs.declared.pool.Market.TheVariants.{DayAhead, RealTime}
 use Rattle.credits.specs.Sums.{total}
+use Rattle.credits.specs.Resources.{ResourceDay, Kept}
 use Rattle.credits.specs.Grids.{cell, amount}
 use Rattle.credits.specs.Owning.{owner_places, owner_parts, owned_cents, of_owner}
 use Rattle.credits.specs.Crediting.{resource_credit}
@@ -14,10 +15,11 @@ use Rattle.credits.proofs.crediting.credit_hours.Goals as goal
 pub loop-hour-init : goal.loop-hour-init
 unfolding total
 loop-hour-init c =
-    let g = c.args.unit.now.resource in
-    let slots = mapped _ of_owner _ (λ x y q k. search rules) no_owner no_share g.owners c.map-slots.result 8 c.requires.resource.0.resource.slots c.map-slots.ensures.items in (
-      ap (λ os. map (λ o. o.place) (take g.owner_count os)) slots ∙ first_owners (λ o. o.place) (λ o. o.place) (λ o. refl) g.owner_count g.owners,
-      ap (λ os. map (λ o. o.parts) (take g.owner_count os)) slots ∙ first_owners (λ o. o.parts) (λ o. o.parts) (λ o. refl) g.owner_count g.owners,
+    let g = c.unit.inside.resource in
+    let is = ap (λ (x : ResourceDay). x.resource) c.unit.view_is in
+    let slots = mapped _ of_owner _ (λ x y q k. search rules) no_owner no_share g.owners c.map-slots.result 8 c.unit.invariant.kept.resource.slots c.map-slots.ensures.items in (
+      ap (λ os. map (λ o. o.place) (take g.owner_count os)) slots ∙ first_owners (λ o. o.place) (λ o. o.place) (λ o. refl) g.owner_count g.owners ∙ ap owner_places is,
+      ap (λ os. map (λ o. o.parts) (take g.owner_count os)) slots ∙ first_owners (λ o. o.parts) (λ o. o.parts) (λ o. refl) g.owner_count g.owners ∙ ap owner_parts is,
       λ most b i p. omega (arith, b i p),
       λ i p _ _ _. omega arith,
     )
@@ -25,10 +27,10 @@ loop-hour-init c =
 pub share_out-requires : goal.share_out-requires
 share_out-requires c =
     record {
-      owners = owners_fit c.args.unit.now.resource c.loop-hour.owners c.requires.resource.0.resource c.loop-hour.invariant.0 c.loop-hour.invariant.1;
+      owners = owners_fit c.args.unit.now.resource c.loop-hour.owners (subst (Kept 48) c.unit.view_is c.unit.invariant.kept).resource c.loop-hour.invariant.0 c.loop-hour.invariant.1;
       small = (
         λ i p. omega (arith, c.loop-hour.invariant.2 100000000000000000 c.requires.below i p),
-        get_or_small 100000000000 c.args.cents.now.day_ahead c.loop-hour.hour c.requires.resource.1.day_ahead_small,
+        get_or_small 100000000000 c.args.cents.now.day_ahead c.loop-hour.hour c.requires.allotted.day_ahead_small,
       );
     }
 
@@ -37,10 +39,10 @@ share_out-requires-in-loop-hour c =
     let before = c.loop-hour.invariant in
     let first = c.share_out.ensures in
     record {
-      owners = owners_fit c.args.unit.now.resource c.share_out.new.owners c.requires.resource.0.resource (first.same_places ∙ before.0) (first.same_parts ∙ before.1);
+      owners = owners_fit c.args.unit.now.resource c.share_out.new.owners (subst (Kept 48) c.unit.view_is c.unit.invariant.kept).resource (first.same_places ∙ before.0) (first.same_parts ∙ before.1);
       small = (
         λ i p. omega (arith, first.grown _ (before.2 100000000000000000 c.requires.below) i p),
-        get_or_small 100000000000 c.args.cents.now.real_time c.loop-hour.hour c.requires.resource.1.real_time_small,
+        get_or_small 100000000000 c.args.cents.now.real_time c.loop-hour.hour c.requires.allotted.real_time_small,
       );
     }
 
@@ -55,9 +57,9 @@ loop-hour-preserved c =
       second.same_parts ∙ first.same_parts ∙ before.1,
       λ most b i p. omega (arith, second.grown _ (first.grown _ (before.2 most b)) i p),
       λ i p l one most.
-          let d = market_entry DayAhead x h i p _ _ _ _ _ _ c.pool.ensures (ap (λ xs. get_or xs h 0) c.requires.resource.1.day_ahead) before.0 before.1 (first.booked i p l one most) in
-          let r = market_entry RealTime x h i p _ _ _ _ _ _ c.pool-in-loop-hour.ensures (ap (λ xs. get_or xs h 0) c.requires.resource.1.real_time) (first.same_places ∙ before.0) (first.same_parts ∙ before.1) (second.booked i p l one most) in
-          omega (arith, d, r, before.3 i p l one most, cell_owned x h i p c.requires.resource.0, total_more (λ k. owned_cents i (owner_places x.resource) (owner_parts x.resource) (cell x k p)) h),
+          let d = market_entry DayAhead x h i p _ _ _ _ _ _ c.pool.ensures (ap (λ xs. get_or xs h 0) c.requires.allotted.day_ahead) before.0 before.1 (first.booked i p l one most) in
+          let r = market_entry RealTime x h i p _ _ _ _ _ _ c.pool-in-loop-hour.ensures (ap (λ xs. get_or xs h 0) c.requires.allotted.real_time) (first.same_places ∙ before.0) (first.same_parts ∙ before.1) (second.booked i p l one most) in
+          omega (arith, d, r, before.3 i p l one most, cell_owned x h i p (subst (Kept 48) c.unit.view_is c.unit.invariant.kept), total_more (λ k. owned_cents i (owner_places x.resource) (owner_parts x.resource) (cell x k p)) h),
     )
 
 pub returns : goal.returns

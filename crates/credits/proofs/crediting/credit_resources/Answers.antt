@@ -1,62 +1,54 @@
-use Rattle.std.proofs.Common.{◌+◌, ◌*◌, ◌<◌, drop, Err, sym, ap, ◌∙◌, subst, arith}
+use Rattle.std.proofs.Common.{◌≡◌, Err, sym, ap, ◌∙◌, subst, arith}
 use Rattle.std.proofs.lemmas.Result.{err_from_is_err_and, MatchResult-from_err}
-use Rattle.dayfile.specs.Days.{records}
-use Rattle.dayfile.specs.Files.{blocks}
+use Rattle.dayfile.specs.declared.day.AdmittedDay.{AdmittedDay}
 use Rattle.dayfile.specs.Files.{answer as refused_by}
-use Rattle.credits.proofs.Days.{day_short}
-use Rattle.credits.proofs.DayCredits.{CreditedTo, block_told, refused_none, refused_some, credited_none, credited_same, credited_more, credited_stop, credited_all}
+use Rattle.credits.specs.declared.resources.ResourceIter.{ResourceIter}
+use Rattle.credits.specs.Resources.{resources_of, resources_behind}
+use Rattle.credits.proofs.Days.{day_resources}
+use Rattle.credits.proofs.DayCredits.{CreditedTo, refused_none, refused_some, credited_none, credited_more, credited_stop, credited_few, credited_all}
 use Rattle.credits.proofs.crediting.credit_resources.Goals as goal
-use Rattle.credits.proofs.crediting.credit_resources.Goals.{in-Some+in_ok-credit_resource, in_default}
 
-pub loop-k-init : goal.loop-k-init
-loop-k-init c = credited_none c.args.day.now.file.now c.args.amounts.now.rows c.requires
+pub loop-unit-init : goal.loop-unit-init
+loop-unit-init c =
+    let f = c.args.day.now.file.now in
+    let s = c.resources-unit-items.result in
+    let all : resources_behind c.into_iter-unit-iterator.result.block c.into_iter-unit-iterator.result.day.now.file.now ≡ resources_of f =
+    ap (λ (t : ResourceIter). resources_behind t.block t.day.now.file.now) c.into_iter-unit-iterator.ensures.into_iter_gives
+    ∙ ap (λ b. resources_behind b s.day.now.file.now) c.resources-unit-items.ensures.0 ∙ ap (λ (d : AdmittedDay). resources_behind 0 d.file.now) c.resources-unit-items.ensures.1 in
+    subst (λ xs. CreditedTo f xs c.args.amounts.now.rows) (sym all) (credited_none f c.args.amounts.now.rows (day_resources c.args.day.now) c.requires)
 
 pub credit_resource-requires : goal.credit_resource-requires
 credit_resource-requires c =
     let f = c.args.day.now.file.now in
-    let told = c.in-Some.ensures in
-    let few = day_short c.args.day.now in
-    record {
-      resource = (told.few, omega (arith, block_told c.loop-k.k (drop c.loop-k.k (records f)) c.in-Some.unit told.value, c.loop-k-test.true, c.blocks-k-end.ensures));
-      below = λ i p. omega (arith, c.loop-k.invariant.below i p, c.loop-k-test.true, c.blocks-k-end.ensures);
-    }
+    let rows = c.loop-unit.amounts.rows in
+    let before = subst (λ xs. CreditedTo f xs rows) c.in-Some.ensures.steps c.loop-unit.invariant in
+    λ i p. omega (arith, credited_few f rows c.in-Some.unit _ before i p)
 
-pub loop-k-preserved : goal.loop-k-preserved
-loop-k-preserved c =
+pub loop-unit-preserved : goal.loop-unit-preserved
+loop-unit-preserved c =
     let f = c.args.day.now.file.now in
-    let k = c.loop-k.k in
-    let l : k < blocks f = omega (arith, c.loop-k-test.true, c.blocks-k-end.ensures) in
-    elim c.match-resource_at.branch [
-      | in-Some+in_ok-credit_resource w ↦
-          subst (λ t. CreditedTo f (k + 1) t.rows) (sym w.amounts-is)
-          (credited_more f c.loop-k.amounts.rows k w.in-Some.unit w.credit_resource.new.amounts.rows l w.in-Some.ensures.value
-          (refused_none _ (sym w.credit_resource.ensures.answer ∙ w.in_ok-credit_resource.was))
-          w.credit_resource.ensures.grown w.in_ok-credit_resource.ensures.credited c.loop-k.invariant)
-      | in_default w ↦ subst (λ t. CreditedTo f (k + 1) t.rows) (sym w.amounts-is) (credited_same f c.loop-k.amounts.rows k l (sym w.in_default.is ∙ c.resource_at.ensures.value) c.loop-k.invariant)
-    ]
+    let rows = c.loop-unit.amounts.rows in
+    let before = subst (λ xs. CreditedTo f xs rows) c.in-Some.ensures.steps c.loop-unit.invariant in
+    credited_more f rows c.in-Some.unit _ before c.credit_resource.new.amounts.rows
+    (refused_none _ (sym c.credit_resource.ensures.answer ∙ c.in_ok-credit_resource.was)) c.credit_resource.ensures.grown c.in_ok-credit_resource.ensures.credited
 
 pub returns-in_err-credit_resource : goal.returns-in_err-credit_resource
 returns-in_err-credit_resource c =
     let f = c.args.day.now.file.now in
-    let k = c.loop-k.k in
-    let few = day_short c.args.day.now in
-    let l : k < blocks f = omega (arith, c.loop-k-test.true, c.blocks-k-end.ensures) in
+    let rows = c.loop-unit.amounts.rows in
+    let before = subst (λ xs. CreditedTo f xs rows) c.in-Some.ensures.steps c.loop-unit.invariant in
     let p = err_from_is_err_and c.from_residual.result c.from_residual.ensures.1 in
-    let stop = credited_stop f c.loop-k.amounts.rows k c.in-Some.unit _ l c.in-Some.ensures.value
-    (refused_some _ _ (sym c.credit_resource.ensures.answer ∙ c.in_err-credit_resource.was)) c.loop-k.invariant in
+    let stop = credited_stop f rows c.in-Some.unit _ before _ (refused_some _ _ (sym c.credit_resource.ensures.answer ∙ c.in_err-credit_resource.was)) in
     record {
       answer = p.1 ∙ ap Err p.2 ∙ sym (ap refused_by stop);
-      below = λ i p. omega (arith, c.credit_resource.ensures.grown (k * 4800000000000) c.loop-k.invariant.below i p);
+      below = λ i p. omega (arith, c.credit_resource.ensures.grown 609600000000000 (credited_few f rows c.in-Some.unit _ before) i p);
       credited = MatchResult-from_err _ _ _ c.from_residual.ensures.0 (λ _. tt);
     }
 
 pub returns : goal.returns
 returns c =
     let f = c.args.day.now.file.now in
-    let n = c.blocks-k-end.ensures in
-    let done = credited_all f c.loop-k.amounts.rows c.loop-k.k (omega (arith, c.loop-k-test.false)) c.loop-k.invariant in
-    record {
-      answer = sym (ap refused_by done.0);
-      below = λ i p. omega (arith, c.loop-k.invariant.below i p, day_short c.args.day.now, c.loop-k.auto.k-end);
-      credited = done.1;
-    }
+    let rows = c.loop-unit.amounts.rows in
+    let before = subst (λ xs. CreditedTo f xs rows) c.in-None.ensures.steps.0 c.loop-unit.invariant in
+    let done = credited_all f rows before in
+    record { answer = sym (ap refused_by done.0); below = λ i p. omega (arith, c.loop-unit.invariant.below i p); credited = done.1 }
