@@ -1,11 +1,10 @@
 //! Writes an example into a directory.
 use crate::stop::Stop;
 use std::fs;
-use std::fs::Files;
 
 /// Writes the file `NAME.day` into a directory, and prints its path.
-pub fn write_example<R: Alloc + Files + Print>(
-    rt: &R,
+pub fn write_example(
+    rt: &HostRuntime,
     directory: &str,
     name: &str,
     bytes: &[u8],

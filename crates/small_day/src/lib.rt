@@ -6,6 +6,7 @@ mod hours;
 mod records;
 mod show;
 mod stop;
+mod task;
 mod writing;
 
 pub use examples::write_example;
@@ -13,4 +14,5 @@ pub use hours::{DayAheadHour, day_ahead_hours};
 pub use records::{BYTES, RECORDS, participants, resource, small_day};
 pub use show::print_resource;
 pub use stop::Stop;
+pub use task::Task;
 pub use writing::write_records;

@@ -3,12 +3,12 @@ ghost use Rattle.std.specs.Prelude.{◌≡◌, [], ◌∷◌, ◌++◌, replicat
 ghost use Rattle.dayfile.specs.declared.record.Record.TheVariants.{Participant};
 ghost use Rattle.figures.specs.SmallDay.{small_day, small_participant, small_resource};
 
-use dayfile::{DayRecord, Flag, Load, Owner, ParticipantRecord, Record, ResourceRecord};
+use dayfile::{BLOCK, DayRecord, Flag, Load, Owner, ParticipantRecord, Record, ResourceRecord};
 
 /// How many records the small day has.
 pub const RECORDS: usize = 5;
 /// The bytes of its file.
-pub const BYTES: usize = 2560;
+pub const BYTES: usize = BLOCK * RECORDS;
 
 /// The small day, record by record.
 pub fn small_day() -> [Record; RECORDS]

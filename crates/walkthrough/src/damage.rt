@@ -1,10 +1,12 @@
 //! Ways to damage the small day's file, one for each refusal of a file.
-ghost use Rattle.std.specs.Prelude.{◌≡◌, ◌+◌, ◌≤◌, length};
+ghost use Rattle.std.specs.Prelude.{◌+◌, ◌≤◌, length};
 
-use crate::records::BYTES;
+use dayfile::{BLOCK, check_of};
+use small_day::BYTES;
+use std::fmt;
 
 /// What is done to the file.
-#[derive(Clone, Copy)]
+#[derive(Clone, Copy, Debug, PartialEq, Eq)]
 pub enum Damage {
     Length,
     Check,
@@ -40,9 +42,28 @@ impl Damage {
         }
     }
 
-    /// What is done, in words.
-    pub fn words(self) -> &'static str {
+    /// Damages the small day's file, and gives what is left of it.
+    pub fn apply(self, file: &mut [u8; BYTES]) -> &[u8]
+        ensures { length result.now ≤ 2560 }
+    {
+        let (blocks, _) = file.as_chunks_mut::<BLOCK>();
         match self {
+            Damage::Length => return &file[..BYTES - 1],
+            Damage::Check => overwrite(&mut blocks[2], 4, &104u32.to_le_bytes()),
+            Damage::Order => change(&mut blocks[1], 0, b"R"),
+            Damage::Field => change(&mut blocks[0], 8, &1_000u16.to_le_bytes()),
+            Damage::Number => change(&mut blocks[3], 4, &102u32.to_le_bytes()),
+            Damage::Owners => change(&mut blocks[4], 128, &399_999u32.to_le_bytes()),
+            Damage::Counts => change(&mut blocks[0], 10, &[4]),
+        }
+        file
+    }
+}
+
+/// What is done, in words.
+impl fmt::Display for Damage {
+    fn fmt<W: fmt::Write>(&self, f: &mut fmt::Formatter<W>) -> fmt::Result {
+        f.write_str(match self {
             Damage::Length => "the last byte is cut off",
             Damage::Check => "participant 102 becomes 104, and the check stays",
             Damage::Order => "the first participant's block begins with R, and its check is mended",
@@ -50,50 +71,21 @@ impl Damage {
             Damage::Number => "participant 103 becomes 102, and the check is mended",
             Damage::Owners => "the second owner's parts become 399999, and the check is mended",
             Damage::Counts => "the count of participants becomes 4, and the check is mended",
-        }
-    }
-
-    /// Damages the small day's file, and says how many bytes of it are left.
-    pub fn apply(self, file: &mut [u8; BYTES]) -> usize
-        ensures { result ≤ 2560 }
-    {
-        match self {
-            Damage::Length => return BYTES - 1,
-            Damage::Check => overwrite(&mut file[1024..1536], 4, &104u32.to_le_bytes()),
-            Damage::Order => change(&mut file[512..1024], 0, b"R"),
-            Damage::Field => change(&mut file[0..512], 8, &1_000u16.to_le_bytes()),
-            Damage::Number => change(&mut file[1536..2048], 4, &102u32.to_le_bytes()),
-            Damage::Owners => change(&mut file[2048..2560], 128, &399_999u32.to_le_bytes()),
-            Damage::Counts => change(&mut file[0..512], 10, &[4]),
-        }
-        BYTES
+        })
     }
 }
 
 /// Writes bytes over a block, and mends its check.
-fn change(block: &mut [u8], at: usize, bytes: &[u8])
-    requires { (length block.old ≡ 512) × (at + length bytes.now ≤ 508) }
+fn change(block: &mut [u8; BLOCK], at: usize, bytes: &[u8])
+    requires { at + length bytes.now ≤ 508 }
 {
     overwrite(block, at, bytes);
     let check = check_of(block);
     overwrite(block, 508, &check.to_le_bytes());
 }
 
-fn overwrite(block: &mut [u8], at: usize, bytes: &[u8])
-    requires { at + length bytes.now ≤ length block.old }
+fn overwrite(block: &mut [u8; BLOCK], at: usize, bytes: &[u8])
+    requires { at + length bytes.now ≤ 512 }
 {
     block[at..at + bytes.len()].copy_from_slice(bytes);
-}
-
-/// The check of a block: the sum of (i + 1) times byte i over its first 508 bytes.
-fn check_of(block: &[u8]) -> u32
-    requires { length block.now ≡ 512 }
-{
-    let mut sum: u32 = 0;
-    let mut rank: u32 = 0;
-    for byte in &block[0..508] {
-        rank = rank.wrapping_add(1);
-        sum = sum.wrapping_add(rank.wrapping_mul(u32::from(*byte)));
-    }
-    sum
 }

@@ -6,15 +6,12 @@
 
 mod damage;
 mod examples;
-mod records;
 mod show;
-mod stop;
 mod tour;
 
 use examples::write_examples;
-use std::env;
+use small_day::{Stop, Task};
 use std::process::ExitCode;
-use stop::Stop;
 use tour::run_tour;
 
 fn main(rt: HostRuntime) -> ExitCode {
@@ -25,16 +22,8 @@ fn main(rt: HostRuntime) -> ExitCode {
 }
 
 fn run(rt: &HostRuntime) -> Result<(), Stop> {
-    let mut words = env::args(rt)?;
-    let _program = words.next();
-    let Some(task) = words.next() else {
-        return run_tour(rt);
-    };
-    match (task.as_str(), words.next()) {
-        ("examples", Some(directory)) => write_examples(rt, directory.as_str()),
-        _ => {
-            eprintln!(rt; "say nothing for the tour, or: examples DIRECTORY")?;
-            Err(Stop::Usage)
-        }
+    match Task::from_arguments(rt)? {
+        Task::Tour => run_tour(rt),
+        Task::Examples { directory } => write_examples(rt, directory.as_str()),
     }
 }

@@ -1,8 +1,6 @@
-//! Records, blocks and refusals in words.
-ghost use Rattle.std.specs.Prelude.{◌<◌};
-
-use dayfile::{Block, DayRecord, Fault, Owner, ParticipantRecord, Place, Record, ResourceRecord};
-use explanation::layer_name;
+//! Records and blocks in words.
+use dayfile::{Block, DayRecord, ParticipantRecord, Record};
+use small_day::print_resource;
 use std::io;
 
 /// Prints a record of the small day: what is not 0.
@@ -36,52 +34,6 @@ fn print_participant(rt: &impl Print, participant: &ParticipantRecord) -> io::Re
     let second = participant.loads[1].day_ahead;
     println!(rt;
         "   participant {number}; day-ahead load in region 1: {first}, in region 2: {second}"
-    )
-}
-
-fn print_resource(rt: &impl Print, resource: &ResourceRecord) -> io::Result<()> {
-    let ResourceRecord {
-        number,
-        region,
-        start_up_cents,
-        no_load_cents,
-        ..
-    } = *resource;
-    println!(rt;
-        "   Resource {number} in region {region}; Start-Up Fee: {start_up_cents} cents, No-Load Fee: {no_load_cents} cents"
-    )?;
-    for owner in &resource.owners {
-        print_owner(rt, owner)?;
-    }
-    for hour in 0..24 {
-        print_hour(rt, resource, hour)?;
-    }
-    Ok(())
-}
-
-fn print_owner(rt: &impl Print, owner: &Owner) -> io::Result<()> {
-    let Owner { place, parts } = *owner;
-    if parts > 0 {
-        println!(rt; "      owner at place {place}: {parts} parts of a million")
-    } else {
-        Ok(())
-    }
-}
-
-/// Prints an hour, from 0, in which the Resource clears.
-fn print_hour(rt: &impl Print, resource: &ResourceRecord, hour: usize) -> io::Result<()>
-    requires { hour < 24 }
-{
-    let kwh = resource.cleared_kwh[hour];
-    if kwh == 0 {
-        return Ok(());
-    }
-    let name = hour + 1;
-    let price = resource.prices[hour];
-    let lmp = resource.lmps[hour];
-    let flag = resource.flags[hour].number();
-    println!(rt;
-        "      hour {name}: {kwh} kWh at a price of {price} and an LMP of {lmp} cents per MWh, flag {flag}"
     )
 }
 
@@ -122,20 +74,5 @@ pub fn print_block(rt: &impl Print, k: usize, block: &Block<'_>) -> io::Result<(
             let hours = hours.len();
             println!(rt; "   block {k} is R: {hours} bytes of hours, and more")
         }
-    }
-}
-
-/// Prints a refusal: its number, its layer and what it tells.
-pub fn print_refusal(rt: &impl Print, fault: Fault) -> io::Result<()> {
-    let number = fault.number();
-    let layer = layer_name(fault.layer());
-    match fault.place() {
-        Place::Block { block } => println!(rt;
-            "     refused {number}, layer {layer}, block {block}"
-        ),
-        Place::Field { block, byte } => println!(rt;
-            "     refused {number}, layer {layer}, block {block}, byte {byte}"
-        ),
-        _ => println!(rt; "     refused {number}, layer {layer}"),
     }
 }

@@ -1,10 +1,9 @@
 //! The tour, step by step.
 use crate::damage::{DAMAGES, Damage};
-use crate::records::{BYTES, RECORDS, small_day, write_records};
-use crate::show::{print_block, print_record, print_refusal};
-use crate::stop::Stop;
-use dayfile::{AdmittedDay, BLOCK, DayRecord, Record, admit, read_block, write_day};
+use crate::show::{print_block, print_record};
+use dayfile::{AdmittedDay, BLOCK, DayRecord, Record, admit, read_block, word_at, write_day};
 use explanation::explain;
+use small_day::{BYTES, RECORDS, Stop, small_day, write_records};
 
 pub fn run_tour(rt: &HostRuntime) -> Result<(), Stop> {
     println!(rt; "A small day: from its records to a file, and back.")?;
@@ -31,30 +30,25 @@ fn write_file(rt: &HostRuntime, records: &[Record; RECORDS]) -> Result<[u8; BYTE
     println!(rt;
         "2. Each record is written as a block of {BLOCK} bytes, which begins with its kind and ends with its check."
     )?;
-    for k in 0..RECORDS {
-        show_ends(rt, k, &file[BLOCK * k..BLOCK * k + BLOCK])?;
+    for (k, block) in file.as_chunks().0.iter().enumerate() {
+        show_ends(rt, k, block)?;
     }
     Ok(file)
 }
 
 /// Shows with what a block begins and ends.
-fn show_ends(rt: &HostRuntime, k: usize, block: &[u8]) -> Result<(), Stop> {
-    if let [kind, .., a, b, c, d] = block {
-        let kind = char::from(*kind);
-        let check = u32::from_le_bytes([*a, *b, *c, *d]);
-        println!(rt; "   block {k}: kind {kind}, check {check}")?;
-    }
+fn show_ends(rt: &HostRuntime, k: usize, block: &[u8; BLOCK]) -> Result<(), Stop> {
+    let kind = char::from(block[0]);
+    let check = word_at(block, 508);
+    println!(rt; "   block {k}: kind {kind}, check {check}")?;
     Ok(())
 }
 
 fn read_blocks(rt: &HostRuntime, file: &[u8; BYTES]) -> Result<(), Stop> {
     println!(rt; "")?;
     println!(rt; "3. Each block is read by itself, and shows its parts of the file.")?;
-    for k in 0..RECORDS {
-        let mut block = [0; BLOCK];
-        block.copy_from_slice(&file[BLOCK * k..BLOCK * k + BLOCK]);
-        let shown = read_block(&block)?;
-        print_block(rt, k, &shown)?;
+    for (k, block) in file.as_chunks().0.iter().enumerate() {
+        print_block(rt, k, &read_block(block)?)?;
     }
     Ok(())
 }
@@ -93,17 +87,15 @@ fn damage_file(rt: &HostRuntime, file: &[u8; BYTES]) -> Result<(), Stop> {
 
 /// Damages a copy of the file, has it refused, and explains the refusal.
 fn try_damage(rt: &HostRuntime, damage: Damage, file: &[u8; BYTES]) -> Result<(), Stop> {
+    println!(rt; "   {damage}:")?;
     let mut copy = *file;
-    let length = damage.apply(&mut copy);
-    let damaged = &copy[0..length];
-    let words = damage.words();
-    println!(rt; "   {words}:")?;
+    let damaged = damage.apply(&mut copy);
     let mut day = AdmittedDay::built_in();
     match admit(damaged, &mut day) {
         Ok(()) => println!(rt; "     accepted")?,
         Err(fault) => {
             let finding = explain(fault, damaged);
-            print_refusal(rt, fault)?;
+            println!(rt; "     {fault}")?;
             println!(rt; "     {finding}")?;
         }
     }
@@ -113,8 +105,7 @@ fn try_damage(rt: &HostRuntime, damage: Damage, file: &[u8; BYTES]) -> Result<()
 fn write_back(rt: &HostRuntime, day: &AdmittedDay<'_>) -> Result<(), Stop> {
     let mut out = [0; BYTES];
     write_day(day, &mut out)?;
-    let written = &out[0..BYTES];
-    let same = if written == day.file() {
+    let same = if out.as_slice() == day.file() {
         "the bytes are those of the file"
     } else {
         "the bytes differ from the file"
