@@ -1,9 +1,10 @@
 //! What hours add to a credit.
 use crate::money::Millicents;
 use std::io;
+use std::ops::AddAssign;
 
 /// What hours cost at their offer, and what their energy is worth.
-#[derive(Clone, Copy)]
+#[derive(Clone, Copy, Debug, Default, PartialEq, Eq)]
 pub struct Amounts {
     pub energy: Millicents,
     pub start_up: Millicents,
@@ -12,29 +13,20 @@ pub struct Amounts {
 }
 
 impl Amounts {
-    pub const NONE: Amounts = Amounts {
-        energy: Millicents::ZERO,
-        start_up: Millicents::ZERO,
-        no_load: Millicents::ZERO,
-        value: Millicents::ZERO,
-    };
-
-    /// These amounts with those of other hours.
-    pub fn with(self, other: Amounts) -> Amounts {
-        Amounts {
-            energy: self.energy.plus(other.energy),
-            start_up: self.start_up.plus(other.start_up),
-            no_load: self.no_load.plus(other.no_load),
-            value: self.value.plus(other.value),
-        }
-    }
-
     /// The costs less the value.
     pub fn credit(self) -> Millicents {
-        self.energy
-            .plus(self.start_up)
-            .plus(self.no_load)
-            .minus(self.value)
+        self.energy + self.start_up + self.no_load - self.value
+    }
+}
+
+impl AddAssign for Amounts {
+    fn add_assign(&mut self, other: Amounts) {
+        *self = Amounts {
+            energy: self.energy + other.energy,
+            start_up: self.start_up + other.start_up,
+            no_load: self.no_load + other.no_load,
+            value: self.value + other.value,
+        };
     }
 }
 

@@ -4,7 +4,7 @@ use dayfile::Event;
 use std::fmt;
 
 /// What a Resource is committed to between two hours, as far as the example goes: it never runs for itself.
-#[derive(Clone, Copy)]
+#[derive(Clone, Copy, Debug, PartialEq, Eq)]
 pub enum Commitment {
     Down,
     Tripped,
@@ -12,14 +12,14 @@ pub enum Commitment {
 }
 
 /// A pool period: the hours that it has run, and its fee.
-#[derive(Clone, Copy)]
+#[derive(Clone, Copy, Debug, PartialEq, Eq)]
 pub struct Period {
     hours: u8,
     fee: Millicents,
 }
 
 /// What an hour's event does.
-#[derive(Clone, Copy)]
+#[derive(Clone, Copy, Debug, PartialEq, Eq)]
 pub enum Step {
     StaysDown,
     StaysTripped,
@@ -78,10 +78,7 @@ impl Commitment {
 
     /// Whether an hour that ends so is eligible.
     pub fn is_eligible(self) -> bool {
-        match self {
-            Commitment::Period(_) => true,
-            _ => false,
-        }
+        matches!(self, Commitment::Period(_))
     }
 }
 
@@ -107,16 +104,13 @@ impl Step {
     pub fn fee(self) -> Millicents {
         match self {
             Step::Ends { fee } | Step::Trips { fee } | Step::TripsEarly { fee, .. } => fee,
-            _ => Millicents::ZERO,
+            _ => Millicents::default(),
         }
     }
 
     /// Whether the step leaves the Resource down.
     pub fn is_idle(self) -> bool {
-        match self {
-            Step::StaysDown => true,
-            _ => false,
-        }
+        self == Step::StaysDown
     }
 }
 

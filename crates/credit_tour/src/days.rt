@@ -1,7 +1,7 @@
 //! Further days for the examples: one with both Resources, and two that are accepted as files and refused for their credits.
-use crate::records::{participants, resource};
 use crate::restart;
 use dayfile::{DayRecord, Event, Flag, Record};
+use small_day::{participants, resource};
 
 /// The day's own record, of three participants.
 fn header(date: u32, resources: u8) -> Record {

@@ -11,22 +11,19 @@ mod credit_notes;
 mod days;
 mod examples;
 mod money;
-mod parts;
+mod pools;
 mod real_time_notes;
-mod records;
 mod restart;
 mod restart_tour;
 mod share_notes;
 mod show;
 mod small_tour;
-mod stop;
 
 use examples::write_examples;
 use restart_tour::run_restart_tour;
+use small_day::{Stop, Task};
 use small_tour::run_small_tour;
-use std::env;
 use std::process::ExitCode;
-use stop::Stop;
 
 fn main(rt: HostRuntime) -> ExitCode {
     match run(&rt) {
@@ -36,17 +33,11 @@ fn main(rt: HostRuntime) -> ExitCode {
 }
 
 fn run(rt: &HostRuntime) -> Result<(), Stop> {
-    let mut words = env::args(rt)?;
-    let _program = words.next();
-    let Some(task) = words.next() else {
-        run_small_tour(rt)?;
-        return run_restart_tour(rt);
-    };
-    match (task.as_str(), words.next()) {
-        ("examples", Some(directory)) => write_examples(rt, directory.as_str()),
-        _ => {
-            eprintln!(rt; "say nothing for the tour, or: examples DIRECTORY")?;
-            Err(Stop::Usage)
+    match Task::from_arguments(rt)? {
+        Task::Tour => {
+            run_small_tour(rt)?;
+            run_restart_tour(rt)
         }
+        Task::Examples { directory } => write_examples(rt, directory.as_str()),
     }
 }

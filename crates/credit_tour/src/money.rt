@@ -1,29 +1,21 @@
 //! Money in millicents.
 use std::fmt;
+use std::ops::{Add, Sub};
 
-/// An amount in millicents, of which a thousand are a cent. What a day's amounts add up to is far from its limits.
-#[derive(Clone, Copy)]
+/// An amount in millicents, of which a thousand are a cent. What a day's amounts add up to is far from its limits, at which
+/// sums and differences stay.
+#[derive(Clone, Copy, Debug, Default, PartialEq, Eq)]
 pub struct Millicents(i64);
 
 impl Millicents {
-    pub const ZERO: Millicents = Millicents(0);
-
     /// Cents in millicents.
     pub fn of_cents(cents: u32) -> Millicents {
-        Millicents(i64::from(cents).saturating_mul(1000))
+        Millicents(i64::from(cents) * 1000)
     }
 
     /// What energy costs at a price: cents per MWh times kWh are millicents.
     pub fn of_energy(price: i32, kwh: u32) -> Millicents {
         Millicents(i64::from(price).saturating_mul(i64::from(kwh)))
-    }
-
-    pub fn plus(self, other: Millicents) -> Millicents {
-        Millicents(self.0.saturating_add(other.0))
-    }
-
-    pub fn minus(self, other: Millicents) -> Millicents {
-        Millicents(self.0.saturating_sub(other.0))
     }
 
     /// The part of an amount that belongs to so many hours of a run time, a fraction of a millicent dropped.
@@ -36,11 +28,23 @@ impl Millicents {
 
     /// The nearest cents, half a cent up; an amount below 0 is 0 cents.
     pub fn to_cents(self) -> u64 {
-        if self.0 < 0 {
-            0
-        } else {
-            (self.0 as u64 + 500) / 1000
-        }
+        (self.0.max(0) as u64 + 500) / 1000
+    }
+}
+
+impl Add for Millicents {
+    type Output = Millicents;
+
+    fn add(self, other: Millicents) -> Millicents {
+        Millicents(self.0.saturating_add(other.0))
+    }
+}
+
+impl Sub for Millicents {
+    type Output = Millicents;
+
+    fn sub(self, other: Millicents) -> Millicents {
+        Millicents(self.0.saturating_sub(other.0))
     }
 }
 

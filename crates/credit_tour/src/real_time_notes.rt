@@ -1,18 +1,18 @@
 //! The real-time credit of a Resource that trips and is restarted, step by step.
-ghost use Rattle.std.specs.Prelude.{◌<◌};
-
 use crate::amounts::{Amounts, note_credit};
 use crate::commitment::Commitment;
 use crate::money::Millicents;
-use crate::parts::{HourPart, NO_HOUR};
+use crate::pools::pool_of;
 use crate::share_notes::{note_hours, note_owners};
-use crate::stop::Stop;
-use dayfile::{AdmittedDay, Flag, RealTimeRecord, ResourceRecord};
+use credits::Market;
+use dayfile::{AdmittedDay, RealTimeHour, RealTimeRecord, ResourceRecord};
+use division::Portion;
 use explanation::EventName;
-use std::io;
+use small_day::Stop;
+use std::{array, io};
 
 /// What the events of a day come to: the hours that end in a pool period, and the fees of the periods.
-#[derive(Clone, Copy)]
+#[derive(Clone, Copy, Debug)]
 struct Walk {
     eligible: [bool; 24],
     fees: Millicents,
@@ -51,28 +51,22 @@ fn note_events(
     println!(rt;
         "12. Each hour's event moves the commitment. The Resource is down at midnight; its Minimum Run Time is {minimum} hours."
     )?;
-    let mut walk = Walk {
-        eligible: [false; 24],
-        fees: Millicents::ZERO,
-    };
+    let opening = Millicents::of_cents(resource.start_up_cents);
+    let mut eligible = [false; 24];
+    let mut fees = Millicents::default();
     let mut commitment = Commitment::Down;
-    for hour in 0..24 {
-        let event = real_time.events[hour];
-        let step = commitment.step(
-            event,
-            Millicents::of_cents(resource.start_up_cents),
-            minimum,
-        );
+    for (k, (event, eligible)) in real_time.events.iter().zip(&mut eligible).enumerate() {
+        let step = commitment.step(*event, opening, minimum);
         commitment = commitment.after(step);
-        walk.eligible[hour] = commitment.is_eligible();
-        walk.fees = walk.fees.plus(step.fee());
+        *eligible = commitment.is_eligible();
+        fees = fees + step.fee();
         if !step.is_idle() {
-            let name = hour + 1;
-            let event = EventName(event);
-            println!(rt; "   hour {name}, {event}: {step}")?;
+            let hour = k + 1;
+            let event = EventName(*event);
+            println!(rt; "   hour {hour}, {event}: {step}")?;
         }
     }
-    Ok(walk)
+    Ok(Walk { eligible, fees })
 }
 
 /// Notes the eligible hours, and answers their amounts with the fees.
@@ -92,65 +86,59 @@ fn note_eligible(
     )?;
     let mut amounts = Amounts {
         start_up: walk.fees,
-        ..Amounts::NONE
+        ..Amounts::default()
     };
-    for hour in 0..24 {
-        if walk.eligible[hour] {
-            amounts = amounts.with(note_hour(rt, resource, real_time, hour)?);
+    let no_load = Millicents::of_cents(resource.no_load_cents);
+    let hours = real_time.hours.iter().zip(&resource.prices);
+    for (k, ((figures, price), eligible)) in hours.zip(&walk.eligible).enumerate() {
+        if *eligible {
+            amounts += note_hour(rt, k + 1, figures, minimum, *price, no_load)?;
         }
     }
     Ok(amounts)
 }
 
-/// Notes an eligible hour, from 0, and answers its amounts.
+/// Notes an eligible hour, and answers its amounts.
 fn note_hour(
     rt: &impl Print,
-    resource: &ResourceRecord,
-    real_time: &RealTimeRecord,
     hour: usize,
-) -> io::Result<Amounts>
-    requires { hour < 24 }
-{
-    let figures = real_time.hours[hour];
-    let dispatch = figures.dispatch_kwh;
-    let metered = figures.metered_kwh;
-    let lmp = figures.lmp;
-    let paid = metered.min(dispatch.max(real_time.economic_minimum_kwh));
-    let price = resource.prices[hour];
+    figures: &RealTimeHour,
+    minimum: u32,
+    price: i32,
+    no_load: Millicents,
+) -> io::Result<Amounts> {
+    let RealTimeHour {
+        dispatch_kwh: dispatch,
+        metered_kwh: metered,
+        lmp,
+    } = *figures;
+    let paid = metered.min(dispatch.max(minimum));
     let energy = Millicents::of_energy(price, paid);
-    let no_load = Millicents::of_cents(resource.no_load_cents);
     let value = Millicents::of_energy(lmp, metered);
-    let name = hour + 1;
-    println!(rt; "   hour {name}: Dispatch Point {dispatch}, metered {metered}, paid {paid} kWh")?;
+    println!(rt; "   hour {hour}: Dispatch Point {dispatch}, metered {metered}, paid {paid} kWh")?;
     println!(rt;
         "      energy at the offered price of {price}: {energy}; No-Load Fee: {no_load}; value of the metered kWh at the LMP of {lmp}: {value}"
     )?;
     Ok(Amounts {
         energy,
-        start_up: Millicents::ZERO,
         no_load,
         value,
+        ..Amounts::default()
     })
 }
 
-/// The hours that share the credit, with their pools.
-fn hours_of(resource: &ResourceRecord, real_time: &RealTimeRecord, walk: &Walk) -> [HourPart; 24] {
-    let mut hours = [NO_HOUR; 24];
-    for hour in 0..24 {
+/// The pools of the hours that share the credit, with their metered kWh; an hour that does not share weighs nothing.
+fn hours_of(
+    resource: &ResourceRecord,
+    real_time: &RealTimeRecord,
+    walk: &Walk,
+) -> [Portion<usize>; 24] {
+    array::from_fn(|hour| {
         if walk.eligible[hour] {
-            hours[hour].kwh = real_time.hours[hour].metered_kwh;
-            hours[hour].pool = pool_of(real_time.flags[hour], resource.region);
+            let pool = pool_of(Market::RealTime, real_time.flags[hour], resource.region);
+            Portion::new(pool, real_time.hours[hour].metered_kwh)
+        } else {
+            Portion::default()
         }
-    }
-    hours
-}
-
-/// The pool of a real-time hour.
-fn pool_of(flag: Flag, region: u8) -> usize {
-    match flag {
-        Flag::Economic => 3,
-        Flag::Scr => 4,
-        Flag::Var => 5,
-        Flag::Lscpr => 13 + region as usize,
-    }
+    })
 }

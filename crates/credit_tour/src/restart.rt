@@ -1,14 +1,16 @@
 //! The records of a day with a trip and a restart: the small day's participants, and a Resource with a real-time record.
-use crate::records::participants;
 use dayfile::{
-    DayRecord, Event, Flag, Owner, RealTimeHour, RealTimeRecord, Record, ResourceRecord,
+    BLOCK, DayRecord, Event, Flag, Owner, RealTimeHour, RealTimeRecord, Record, ResourceRecord,
 };
+use small_day::participants;
 
+/// How many records the day has.
+const RESTART_RECORDS: usize = 6;
 /// The bytes of its file.
-pub const RESTART_BYTES: usize = 3072;
+pub const RESTART_BYTES: usize = BLOCK * RESTART_RECORDS;
 
 /// The day, record by record.
-pub fn restart_day() -> [Record; 6] {
+pub fn restart_day() -> [Record; RESTART_RECORDS] {
     let [first, second, third] = participants();
     [
         Record::Day(DayRecord {
@@ -27,7 +29,7 @@ pub fn restart_day() -> [Record; 6] {
 
 /// A Resource that cleared nothing day-ahead, and belongs to all three participants.
 pub fn resource() -> ResourceRecord {
-    let mut owners = [Owner { place: 0, parts: 0 }; 8];
+    let mut owners = [Owner::default(); 8];
     owners[0] = owner(0, 333_334);
     owners[1] = owner(1, 333_333);
     owners[2] = owner(2, 333_333);
@@ -55,7 +57,7 @@ fn owner(place: u16, parts: u32) -> Owner {
 
 /// It runs in hours 6 to 8, trips in hour 9, and is restarted for hours 11 to 13, in which it protects its region.
 pub fn real_time() -> RealTimeRecord {
-    let mut hours = [hour(0, 0, 0); 24];
+    let mut hours = [RealTimeHour::default(); 24];
     hours[5] = hour(30_000, 28_000, 4_200);
     hours[6] = hour(40_000, 41_000, 4_300);
     hours[7] = hour(40_000, 40_000, 5_600);

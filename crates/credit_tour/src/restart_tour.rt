@@ -1,10 +1,9 @@
 //! The second part: a day with a trip and a restart.
 use crate::real_time_notes::explain_real_time;
-use crate::records::write_records;
 use crate::restart::{RESTART_BYTES, restart_day};
-use crate::show::{print_real_time, print_resource};
-use crate::stop::Stop;
+use crate::show::print_real_time;
 use dayfile::{AdmittedDay, Record, admit};
+use small_day::{Stop, print_resource, write_records};
 
 /// Writes the day, admits its file, and explains the credit of its Resource.
 pub fn run_restart_tour(rt: &HostRuntime) -> Result<(), Stop> {

@@ -1,10 +1,9 @@
 //! How a credit's cents go to hours, pools and owners, beside what the engine answers.
-use crate::parts::{HourPart, OwnerPart, owners_of};
-use crate::stop::Stop;
 use credits::{Credits, Grid, PLACES, POOLS, PoolAmounts, credit, hourly_allocation};
 use dayfile::{AdmittedDay, ResourceRecord};
-use division::divide;
+use division::{Portion, divide};
 use explanation::PoolName;
+use small_day::Stop;
 use std::io;
 
 /// Divides cents over the hours of a credit, and notes each hour's cents and pool beside the engine's grid.
@@ -13,36 +12,36 @@ pub fn note_hours(
     day: &AdmittedDay<'_>,
     number: u32,
     cents: u64,
-    hours: &mut [HourPart; 24],
+    hours: &mut [Portion<usize>; 24],
 ) -> Result<(), Stop> {
     let _ = divide(cents, hours);
     let mut grid = Grid::empty();
     hourly_allocation(day, number, &mut grid)?;
     let kwh = kwh_of(hours);
-    for hour in 0..24 {
-        note_hour(rt, hour + 1, &hours[hour], kwh, &grid.hours[hour])?;
+    for (k, (part, engine)) in hours.iter().zip(&grid.hours).enumerate() {
+        note_hour(rt, k + 1, part, kwh, engine)?;
     }
     Ok(())
 }
 
 /// The kWh of all hours that share.
-fn kwh_of(hours: &[HourPart; 24]) -> u64 {
-    let mut kwh: u64 = 0;
-    for hour in hours {
-        kwh = kwh.saturating_add(u64::from(hour.kwh));
-    }
-    kwh
+fn kwh_of(hours: &[Portion<usize>; 24]) -> u64 {
+    hours.iter().map(|hour| u64::from(hour.weight)).sum()
 }
 
 /// Notes an hour that shares.
 fn note_hour(
     rt: &impl Print,
     hour: usize,
-    part: &HourPart,
+    part: &Portion<usize>,
     of: u64,
     engine: &PoolAmounts,
 ) -> io::Result<()> {
-    let HourPart { kwh, pool, cents } = *part;
+    let Portion {
+        item: pool,
+        weight: kwh,
+        cents,
+    } = *part;
     if kwh == 0 {
         return Ok(());
     }
@@ -58,12 +57,12 @@ pub fn note_owners(
     rt: &HostRuntime,
     day: &AdmittedDay<'_>,
     resource: &ResourceRecord,
-    hours: &[HourPart; 24],
+    hours: &[Portion<usize>; 24],
 ) -> Result<(), Stop> {
     let mut booked = [PoolAmounts::none(); PLACES];
-    for hour in 0..24 {
-        if hours[hour].kwh > 0 {
-            note_shares(rt, hour + 1, &hours[hour], resource, &mut booked)?;
+    for (k, part) in hours.iter().enumerate() {
+        if part.weight > 0 {
+            note_shares(rt, k + 1, part, resource, &mut booked)?;
         }
     }
     compare(rt, day, &booked)
@@ -73,31 +72,40 @@ pub fn note_owners(
 fn note_shares(
     rt: &impl Print,
     hour: usize,
-    part: &HourPart,
+    part: &Portion<usize>,
     resource: &ResourceRecord,
     booked: &mut [PoolAmounts; PLACES],
 ) -> io::Result<()> {
-    let HourPart { pool, cents, .. } = *part;
-    let mut owners = owners_of(resource);
+    let Portion {
+        item: pool,
+        cents,
+        ..
+    } = *part;
+    let mut owners = resource
+        .owners
+        .map(|owner| Portion::new(owner.place as usize, owner.parts));
     let _ = divide(cents, &mut owners);
     print!(rt; "   hour {hour}, pool {pool}: {cents}")?;
     let mut sign = "=";
-    for owner in &owners {
-        if owner.parts > 0 {
-            let share = owner.cents;
-            print!(rt; " {sign} {share}")?;
-            sign = "+";
-            book(owner, pool, booked);
-        }
+    for owner in owners.iter().filter(|owner| owner.weight > 0) {
+        let share = owner.cents;
+        print!(rt; " {sign} {share}")?;
+        sign = "+";
+        book(owner, pool, booked);
     }
     println!(rt; "")
 }
 
 /// Adds an owner's cents to its place, in a pool.
-fn book(owner: &OwnerPart, pool: usize, booked: &mut [PoolAmounts; PLACES]) {
-    if owner.place < PLACES && pool > 0 && pool <= POOLS {
-        let amount = &mut booked[owner.place].cents[pool - 1];
-        *amount = amount.saturating_add(owner.cents);
+fn book(owner: &Portion<usize>, pool: usize, booked: &mut [PoolAmounts; PLACES]) {
+    let Portion {
+        item: place,
+        cents,
+        ..
+    } = *owner;
+    if place < PLACES && pool > 0 && pool <= POOLS {
+        let amount = &mut booked[place].cents[pool - 1];
+        *amount = amount.saturating_add(cents);
     }
 }
 
@@ -110,13 +118,13 @@ fn compare(
     let mut credits = Credits::empty();
     credit(day, &mut credits)?;
     println!(rt; "   Added up for each participant and pool:")?;
-    for place in 0..PLACES {
-        compare_row(
-            rt,
-            credits.participants[place],
-            &booked[place],
-            &credits.amounts[place],
-        )?;
+    for ((number, booked), engine) in credits
+        .participants
+        .iter()
+        .zip(booked)
+        .zip(&credits.amounts)
+    {
+        compare_row(rt, *number, booked, engine)?;
     }
     Ok(())
 }

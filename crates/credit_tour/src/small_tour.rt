@@ -1,8 +1,7 @@
 //! The first part: the credit of the small day.
 use crate::credit_notes::explain_day_ahead;
-use crate::records::{BYTES, small_day, write_records};
-use crate::stop::Stop;
 use dayfile::{AdmittedDay, Record, admit};
+use small_day::{BYTES, Stop, small_day, write_records};
 
 /// Writes the small day, admits its file, and explains the credit of its Resource.
 pub fn run_small_tour(rt: &HostRuntime) -> Result<(), Stop> {
