@@ -1,5 +1,5 @@
 -- An hour of the walk through a real-time day.
-use Rattle.std.proofs.Common.{◌≡◌, ℕ, zero, suc, ◌+◌, ◌*◌, ◌/◌, ◌<◌, ◌≤◌, Bool, false, cond, ltb, length, ℤ, pos, ◌+ℤ◌, neg_ℤ, ◌≤ℤ◌, Some, None, Option, sym, refl, ap, ◌∙◌, subst, add-zero, mul_comm, mul-le-mul_left, add-one, arith}
+use Rattle.std.proofs.Common.{◌≡◌, ℕ, zero, suc, ◌+◌, ◌*◌, ◌/◌, ◌<◌, ◌≤◌, Bool, false, cond, ltb, length, ℤ, pos, ◌+ℤ◌, neg_ℤ, ◌≤ℤ◌, Some, None, Option, Err, Result, ok_or, sym, refl, ap, ◌∙◌, subst, add-zero, mul_comm, mul-le-mul_left, add-one, arith}
 use native.Mathlib.Nat.{div-le_of_le-mul}
 use Rattle.std.proofs.lemmas.Int.{ints}
 use Rattle.std.proofs.lemmas.List.{get_or_past}
@@ -10,6 +10,7 @@ use Rattle.dayfile.specs.declared.record.Event.{Event}
 use Rattle.dayfile.specs.declared.record.Event.TheVariants.{Off, PoolRun, SelfRun, Trip, IsoRestart, OwnRestart}
 use Rattle.credits.specs.declared.commitment.Commitment.{Commitment}
 use Rattle.credits.specs.declared.commitment.Commitment.TheVariants.{Down, Tripped, PoolPeriod, SelfScheduled, RestartedOnItsOwn}
+use Rattle.credits.specs.declared.forbidden.ForbiddenEvent.{ForbiddenEvent}
 use Rattle.credits.specs.declared.walk.Walk.{Walk}
 use Rattle.credits.specs.Sums.{total, net}
 use Rattle.credits.specs.Commitments.{moved, cut_fee, closing, in_period, at_midnight}
@@ -22,14 +23,18 @@ pub same_walk : (u v : Walk) → u.commitment ≡ v.commitment → u.fees ≡ v.
 same_walk u v p q r = λ i. record { commitment = p i; fees = q i; net = r i }
 
 -- what an advance says, by its answer
-pub advances_none : (o : Option Commitment) (fee : ℕ) (w a : Walk) → Advances o fee w None a → o ≡ None
-advances_none None fee w a h = refl
-advances_none (Some s) fee w a h = let z : ◌≡◌ {A = ℕ} 0 1 = cc h.0 in absurd (omega arith)
+pub advances_none : (o : Option Commitment) (fee : ℕ) (w a : Walk) (r : Option (Unit {0})) → r ≡ None → Advances o fee w r a → o ≡ None
+advances_none None fee w a r n h = refl
+advances_none (Some s) fee w a r n h = let e : ◌≡◌ {A = Option (Unit {0})} (Some tt) None = sym h.0 ∙ n in absurd cc
 
-pub advances_some : (o : Option Commitment) (fee : ℕ) (w a : Walk) (u : Unit {0}) → Advances o fee w (Some u) a
+pub advances_some : (o : Option Commitment) (fee : ℕ) (w a : Walk) (r : Option (Unit {0})) → r ≡ Some tt → Advances o fee w r a
     → (s : Commitment) × ((o ≡ Some s) × (a ≡ record { commitment = s; fees = w.fees + fee; net = w.net }))
-advances_some None fee w a u h = let z : ◌≡◌ {A = ℕ} 0 1 = cc h.0 in absurd (omega arith)
-advances_some (Some s) fee w a u h = (s, (refl, h.1))
+advances_some None fee w a r n h = let e : ◌≡◌ {A = Option (Unit {0})} (Some tt) None = sym n ∙ h.0 in absurd cc
+advances_some (Some s) fee w a r n h = (s, (refl, h.1))
+
+-- what is told of an advance that is refused
+pub refused_with : (o : Option (Unit {0})) (e x : ForbiddenEvent) → o ≡ None → Err x ≡ ok_or o e → x ≡ e
+refused_with o e x n q = let r : ◌≡◌ {A = Result (Unit {0}) ForbiddenEvent} (Err x) (Err e) = q ∙ ap (λ p. ok_or p e) n in cc
 
 -- the commitment of the next hour
 pub commitment_next : (g : ResourceRecord) (r : RealTimeRecord) (h : ℕ) (s : Commitment) → commitment g r h ≡ Some s

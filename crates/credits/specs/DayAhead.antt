@@ -3,6 +3,7 @@ use Rattle.std.specs.Prelude.{◌≡◌, ℕ, zero, suc, ◌+◌, ◌-◌, ◌/�
 use Rattle.std.specs.List.{range_with_len}
 use Rattle.dayfile.specs.declared.record.ResourceRecord.{ResourceRecord}
 use Rattle.dayfile.specs.Rules.{JustWhere}
+use Rattle.std.specs.Bool.{then_some}
 use Rattle.credits.specs.declared.share.HourShare.{HourShare}
 use Rattle.credits.specs.Sums.{net}
 use Rattle.credits.specs.Cents.{millicents}
@@ -73,7 +74,7 @@ day_ahead_millicents g = cond (qualifies g 24) (net (day_ahead_hour g) 24) (pos 
 
 -- the hours that share it, by cleared kWh
 abbrev pub day_ahead_share : ResourceRecord → ℕ → HourShare
-day_ahead_share g h = record { shares = scheduled g h; kwh = cleared g h; cents = 0 }
+day_ahead_share g h = record { kwh = then_some (scheduled g h) (cleared g h); cents = 0 }
 
 abbrev pub day_ahead_shares : ResourceRecord → List HourShare
 day_ahead_shares g = map (day_ahead_share g) (range_with_len 0 24)

@@ -1,6 +1,6 @@
 -- A Resource's cents hour by hour and pool by pool.
 use Rattle.std.specs.Prelude.{◌≡◌, ℕ, ◌+◌, ◌-◌, ◌<◌, ◌≤◌, cond, List, [], map, length, get_or, replicate, Some, None, Option, ◌==◌, slice_index, slice_index_or}
-use Rattle.std.specs.List.{AllByRecursion, range_with_len}
+use Rattle.std.specs.List.{range_with_len}
 use Rattle.dayfile.specs.declared.record.Flag.{Flag}
 use Rattle.dayfile.specs.declared.record.Flag.TheVariants.{Economic}
 use Rattle.credits.specs.Resources.{ResourceDay}
@@ -47,12 +47,10 @@ grid_of x = record { hours = map (λ h. by_pool (cell x h)) (range_with_len 0 24
 abbrev pub stopped : ResourceDay → Option ℕ
 stopped x = elim x.real_time [ None ↦ None | Some r ↦ forbidden_hour x.resource r 24 ]
 
--- a Resource's cents are those of both markets, none of them above a hundred thousand million
+-- a Resource's cents are those of both markets
 pub record Allotted (x : ResourceDay) (c : HourlyCents) : Type 0 where
-  pub day_ahead : c.day_ahead ≡ market_cents DayAhead x
-  pub real_time : c.real_time ≡ market_cents RealTime x
-  pub day_ahead_small : AllByRecursion (λ n. n ≤ 100000000000) c.day_ahead
-  pub real_time_small : AllByRecursion (λ n. n ≤ 100000000000) c.real_time
+  pub day_ahead : c.day_ahead.cents ≡ market_cents DayAhead x
+  pub real_time : c.real_time.cents ≡ market_cents RealTime x
 
 -- the amounts of a row that has none
 abbrev pub no_amounts : PoolAmounts

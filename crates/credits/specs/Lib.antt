@@ -8,6 +8,7 @@ pub mod Commitments
 pub mod RealTime
 pub mod Walks
 pub mod Periods
+pub mod Kept
 pub mod Resources
 pub mod Grids
 pub mod Owning

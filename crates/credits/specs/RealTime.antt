@@ -7,6 +7,7 @@ use Rattle.dayfile.specs.declared.record.RealTimeHour.{RealTimeHour}
 use Rattle.dayfile.specs.declared.record.Event.{Event}
 use Rattle.dayfile.specs.declared.record.Event.TheVariants.{Off}
 use Rattle.credits.specs.declared.commitment.Commitment.{Commitment}
+use Rattle.std.specs.Bool.{then_some}
 use Rattle.credits.specs.declared.share.HourShare.{HourShare}
 use Rattle.credits.specs.Sums.{total, net}
 use Rattle.credits.specs.Cents.{millicents}
@@ -69,7 +70,7 @@ real_time_millicents g r = pos (total (fee_brought g r) 25) +ℤ net (eligible_h
 
 -- the hours that share it, by metered kWh
 abbrev pub real_time_share : ResourceRecord → RealTimeRecord → ℕ → HourShare
-real_time_share g r h = record { shares = eligible g r h; kwh = (figures r h).metered_kwh; cents = 0 }
+real_time_share g r h = record { kwh = then_some (eligible g r h) (figures r h).metered_kwh; cents = 0 }
 
 abbrev pub real_time_shares : ResourceRecord → RealTimeRecord → List HourShare
 real_time_shares g r = map (real_time_share g r) (range_with_len 0 24)

@@ -1,11 +1,12 @@
 -- The walk through the hours of a real-time day.
-use Rattle.std.specs.Prelude.{◌≡◌, ℕ, ◌+◌, ◌*◌, ◌≤◌, List, ℤ, pos, neg_ℤ, ◌≤ℤ◌, Some, None, Option}
+use Rattle.std.specs.Prelude.{◌≡◌, ℕ, ◌+◌, ◌*◌, ◌≤◌, List, ℤ, pos, neg_ℤ, ◌≤ℤ◌, Some, None, Option, Ok, Err, Result}
 use Rattle.credits.specs.declared.commitment.Commitment.{Commitment}
 use Rattle.credits.specs.declared.commitment.Commitment.TheVariants.{Down, Tripped, PoolPeriod, SelfScheduled, RestartedOnItsOwn}
 use Rattle.credits.specs.declared.walk.Walk.{Walk}
 use Rattle.dayfile.specs.declared.record.ResourceRecord.{ResourceRecord}
 use Rattle.dayfile.specs.declared.record.RealTimeRecord.{RealTimeRecord}
 use Rattle.credits.specs.declared.share.HourShare.{HourShare}
+use Rattle.credits.specs.declared.forbidden.ForbiddenEvent.{ForbiddenEvent}
 use Rattle.credits.specs.Sums.{total, net}
 use Rattle.credits.specs.RealTime.{commitment, fee_brought, eligible_hour, forbidden_hour, real_time_millicents, real_time_share, real_time_shares}
 
@@ -33,14 +34,13 @@ pub record Stands (g : ResourceRecord) (r : RealTimeRecord) (n : ℕ) (w : Walk)
   pub above : neg_ℤ (pos (n * 1000000000000)) ≤ℤ w.net
   pub below : w.net ≤ℤ pos (n * 1000000000000)
 
--- an hour passed: the walk stands behind it and the hour shares as it is eligible, or its event may not follow
-abbrev pub Passes : ResourceRecord → RealTimeRecord → ℕ → Option HourShare → Walk → Type 0
-Passes g r h None after = commitment g r (h + 1) ≡ None
-Passes g r h (Some x) after = (x ≡ real_time_share g r h) × Stands g r (h + 1) after
+-- an hour passed: the walk stands behind it and the hour shares as it is eligible, or its event, told from 1, may not follow
+abbrev pub Passes : ResourceRecord → RealTimeRecord → ℕ → Result HourShare ForbiddenEvent → Walk → Type 0
+Passes g r h (Err e) after = (commitment g r (h + 1) ≡ None) × (e.hour ≡ h + 1)
+Passes g r h (Ok x) after = (x ≡ real_time_share g r h) × Stands g r (h + 1) after
 
 -- the whole day passed: no event is forbidden, and the sum and the hours are those of the credit
 pub record SumsUp (g : ResourceRecord) (r : RealTimeRecord) (m : ℤ) (hours : List HourShare) : Type 0 where
   pub allowed : forbidden_hour g r 24 ≡ None
   pub sum : m ≡ real_time_millicents g r
-  pub small : m ≤ℤ pos 100000000000000
   pub shares : hours ≡ real_time_shares g r

@@ -12,11 +12,10 @@ pub(crate) fn to_cents(amount: i64) -> u64
     ensures value { result ≡ cents amount }
     ensures small { result ≤ 100000000000 }
 {
-    if amount < 0 {
-        0
-    } else {
-        (amount as u64 + CENT / 2) / CENT
-    }
+    let Ok(amount) = u64::try_from(amount) else {
+        return 0;
+    };
+    (amount + CENT / 2) / CENT
 }
 
 /// Cents in millicents.

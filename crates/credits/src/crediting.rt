@@ -48,13 +48,13 @@ fn credit_hours(unit: &ResourceDay, cents: &HourlyCents, amounts: &mut Table)
     let owners = &mut slots[..unit.resource.owner_count as usize];
     for hour in 0..24 {
         share_out(
-            cents.day_ahead[hour],
+            cents.day_ahead.cents[hour],
             unit.pool(Market::DayAhead, hour),
             owners,
             amounts,
         );
         share_out(
-            cents.real_time[hour],
+            cents.real_time.cents[hour],
             unit.pool(Market::RealTime, hour),
             owners,
             amounts,
@@ -70,7 +70,10 @@ fn credit_resource(unit: &ResourceDay, amounts: &mut Table) -> Result<(), Fault>
     ensures credited { OnOk result ((i p : ℕ) → i < 48 → 1 ≤ p → p ≤ 21 → amount amounts.new.rows i p ≡ amount amounts.old.rows i p + resource_credit i p unit.now) }
 {
     let block = unit.block + 1;
-    let cents = allocate(unit).map_err(|hour| Fault::Event { block, hour })?;
+    let cents = allocate(unit).map_err(|event| Fault::Event {
+        block,
+        hour: event.hour,
+    })?;
     credit_hours(unit, &cents, amounts);
     Ok(())
 }

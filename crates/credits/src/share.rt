@@ -1,16 +1,9 @@
 //! An hour that may share a credit.
 
-/// An hour among those of a credit: whether it shares in it, by how many kWh, and the cents that it gets.
-#[derive(Clone, Copy)]
+/// An hour among those of a credit: the kWh by which it shares in it, if it does, and the cents that it gets.
+#[derive(Clone, Copy, Default)]
 pub(crate) struct HourShare {
-    pub(crate) shares: bool,
-    pub(crate) kwh: u32,
+    /// `None` where the hour does not share.
+    pub(crate) kwh: Option<u32>,
     pub(crate) cents: u64,
 }
-
-/// An hour that does not share.
-pub(crate) const NO_SHARE: HourShare = HourShare {
-    shares: false,
-    kwh: 0,
-    cents: 0,
-};

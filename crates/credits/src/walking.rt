@@ -103,10 +103,7 @@ impl Walk {
     pub(crate) fn is_in_period(&self) -> bool
         ensures { result ≡ in_period self.now.commitment }
     {
-        match self.commitment {
-            Commitment::PoolPeriod { .. } => true,
-            _ => false,
-        }
+        matches!(self.commitment, Commitment::PoolPeriod { .. })
     }
 
     /// The credit at the day's end in millicents (no trip cuts a fee there, whatever the Minimum Run Time): the fees, with that of a period that lasts to the end, and the hours' amounts.
@@ -114,9 +111,10 @@ impl Walk {
         requires { (Light 1000 self.now.commitment) × ((self.now.fees ≤ 10000000000000) × ((neg_ℤ (pos 100000000000000) ≤ℤ self.now.net) × (self.now.net ≤ℤ pos 50000000000000))) }
         ensures { result ≡ pos (self.now.fees + closing 0 self.now.commitment Off) +ℤ self.now.net }
     {
-        let last = match self.commitment {
-            Commitment::PoolPeriod { fee, .. } => fee,
-            _ => 0,
+        let last = if let Commitment::PoolPeriod { fee, .. } = self.commitment {
+            fee
+        } else {
+            0
         };
         (self.fees + last) as i64 + self.net
     }

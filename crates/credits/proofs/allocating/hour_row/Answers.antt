@@ -27,12 +27,12 @@ module _ (p c : ℕ) (low : 1 ≤ p) (high : p ≤ 21) (none once : List ℕ) (e
 
 -- two amounts are an hour's
 cells : (x : ResourceDay) (h : ℕ) (cents : HourlyCents) (p q : ℕ) → Allotted x cents → p ≡ market_pool DayAhead x h → q ≡ market_pool RealTime x h
-    → (n : ℕ) → lone p (get_or cents.day_ahead h 0) n + cond (eqb n q) (get_or cents.real_time h 0) 0 ≡ cell x h n
+    → (n : ℕ) → lone p (get_or cents.day_ahead.cents h 0) n + cond (eqb n q) (get_or cents.real_time.cents h 0) 0 ≡ cell x h n
 unfolding cell
 cells x h cents p q a e f n =
     let d = a.day_ahead in
     let r = a.real_time in
-    let z = zero-add (cond (eqb n p) (get_or cents.day_ahead h 0) 0) in
+    let z = zero-add (cond (eqb n p) (get_or cents.day_ahead.cents h 0) 0) in
     cc
 
 pub add-requires : goal.add-requires
@@ -41,7 +41,7 @@ add-requires c =
     omega (
       arith,
       none_at p.number p.from_one p.few c.none-row.result.cents c.none-row.ensures,
-      get_or_small 100000000000 c.args.cents.now.day_ahead c.args.hour c.requires.1.day_ahead_small,
+      c.args.cents.now.day_ahead.small c.args.hour,
     )
 
 pub add-requires-2 : goal.add-requires-2
@@ -50,18 +50,18 @@ add-requires-2 c =
     let q = c.pool-2.result in
     omega (
       arith,
-      once_small p.number (get_or c.args.cents.now.day_ahead c.args.hour 0) p.from_one p.few
+      once_small p.number (get_or c.args.cents.now.day_ahead.cents c.args.hour 0) p.from_one p.few
           c.none-row.result.cents c.add.new.self.cents c.none-row.ensures c.add.ensures.value q.number q.from_one q.few,
-      get_or_small 100000000000 c.args.cents.now.day_ahead c.args.hour c.requires.1.day_ahead_small,
-      get_or_small 100000000000 c.args.cents.now.real_time c.args.hour c.requires.1.real_time_small,
+      c.args.cents.now.day_ahead.small c.args.hour,
+      c.args.cents.now.real_time.small c.args.hour,
     )
 
 pub returns : goal.returns
 returns c =
     let p = c.pool.result in
     let q = c.pool-2.result in
-    let m = get_or c.args.cents.now.day_ahead c.args.hour 0 in
-    let n = get_or c.args.cents.now.real_time c.args.hour 0 in
+    let m = get_or c.args.cents.now.day_ahead.cents c.args.hour 0 in
+    let n = get_or c.args.cents.now.real_time.cents c.args.hour 0 in
     let once = once_is p.number m p.from_one p.few c.none-row.result.cents c.add.new.self.cents c.none-row.ensures c.add.ensures.value in
     let twice = pool_added_to 21 (lone p.number m) q.number q.from_one q.few n c.add.new.self.cents c.add-2.new.self.cents once c.add-2.ensures.value in
     ap (λ xs. record { cents = xs }) (twice ∙ ap (λ g. map g (range_with_len 1 21)) (fun_ext (cells c.args.unit.now c.args.hour c.args.cents.now p.number q.number c.requires.1 c.pool.ensures c.pool-2.ensures)))

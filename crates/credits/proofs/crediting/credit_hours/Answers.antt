@@ -30,7 +30,7 @@ share_out-requires c =
       owners = owners_fit c.args.unit.now.resource c.loop-hour.owners (subst (Kept 48) c.unit.view_is c.unit.invariant.kept).resource c.loop-hour.invariant.0 c.loop-hour.invariant.1;
       small = (
         λ i p. omega (arith, c.loop-hour.invariant.2 100000000000000000 c.requires.below i p),
-        get_or_small 100000000000 c.args.cents.now.day_ahead c.loop-hour.hour c.requires.allotted.day_ahead_small,
+        c.args.cents.now.day_ahead.small c.loop-hour.hour,
       );
     }
 
@@ -42,7 +42,7 @@ share_out-requires-in-loop-hour c =
       owners = owners_fit c.args.unit.now.resource c.share_out.new.owners (subst (Kept 48) c.unit.view_is c.unit.invariant.kept).resource (first.same_places ∙ before.0) (first.same_parts ∙ before.1);
       small = (
         λ i p. omega (arith, first.grown _ (before.2 100000000000000000 c.requires.below) i p),
-        get_or_small 100000000000 c.args.cents.now.real_time c.loop-hour.hour c.requires.allotted.real_time_small,
+        c.args.cents.now.real_time.small c.loop-hour.hour,
       );
     }
 

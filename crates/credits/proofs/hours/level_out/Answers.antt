@@ -1,4 +1,4 @@
-use Rattle.std.proofs.Common.{get_or, arith}
+use Rattle.std.proofs.Common.{◌≡◌, get_or, set, option_map, sym, ap, ◌∙◌, rules, arith}
 use Rattle.std.proofs.lemmas.List.{get_or_default}
 use Rattle.std.proofs.lemmas.List.Edits.{map_over_more}
 use Rattle.credits.specs.Allotments.{level}
@@ -10,7 +10,9 @@ loop-hour-preserved c =
     let ys = c.loop-hour.hours in
     let i = c.loop-hour.hour-index in
     let x = get_or ys i no_share in
-    map_over_more level c.args.hours.now ys i x (omega arith) c.loop-hour.invariant (get_or_default ys i no_share x (omega arith))
+    let e : option_map (λ _. 1) x.kwh ≡ c.map-hour.result = search rules in
+    ap (λ k. set ys i (record { kwh = k; cents = x.cents })) (sym e)
+    ∙ map_over_more level c.args.hours.now ys i x (omega arith) c.loop-hour.invariant (get_or_default ys i no_share x (omega arith))
 
 pub returns : goal.returns
 returns c = levelled_all c.args.hours.now c.loop-hour.hours c.loop-hour.hour-index (omega arith) c.loop-hour.invariant

@@ -3,16 +3,16 @@ use Rattle.std.proofs.lemmas.Bool.{not_from_true, not_from_false}
 use Rattle.credits.specs.DayAhead.{self_scheduled, not_self_scheduled, qualifies}
 use Rattle.credits.proofs.Streaks.{streak_none, streak_yes, streak_no, streak_within}
 use Rattle.credits.proofs.Blocks.{qualifies_none, qualifies_more, short_where_scheduled, short_where_unscheduled, not_qualified, by_blocks}
-use Rattle.credits.proofs.self_schedule.qualifies_day_ahead.Goals as goal
-use Rattle.credits.proofs.self_schedule.qualifies_day_ahead.Goals.{then-is_self_scheduled+else-is_short_gap, else-is_self_scheduled+else-is_short_block}
+use Rattle.credits.proofs.day_ahead.DayAheadDay.qualifies.Goals as goal
+use Rattle.credits.proofs.day_ahead.DayAheadDay.qualifies.Goals.{then-is_self_scheduled+else-is_short_gap, else-is_self_scheduled+else-is_short_block}
 
 pub loop-hour-init : goal.loop-hour-init
 loop-hour-init c =
-    let g = c.args.resource.now in (sym (streak_none (self_scheduled g)), sym (streak_none (not_self_scheduled g)), qualifies_none g)
+    let g = c.args.self.now.resource.now in (sym (streak_none (self_scheduled g)), sym (streak_none (not_self_scheduled g)), qualifies_none g)
 
 pub returns-then-is_short_gap : goal.returns-then-is_short_gap
 returns-then-is_short_gap c =
-    let g = c.args.resource.now in
+    let g = c.args.self.now.resource.now in
     let h = c.loop-hour.hour in
     let yes : self_scheduled g h ≡ true = sym c.is_self_scheduled.ensures ∙ c.if-is_self_scheduled.true in
     record {
@@ -23,14 +23,14 @@ returns-then-is_short_gap c =
     }
 
 pub overflow_add-block : goal.overflow_add-block
-overflow_add-block c = omega (arith, c.loop-hour.invariant.0, streak_within (self_scheduled c.args.resource.now) c.loop-hour.hour)
+overflow_add-block c = omega (arith, c.loop-hour.invariant.0, streak_within (self_scheduled c.args.self.now.resource.now) c.loop-hour.hour)
 
 pub is_short_block-requires : goal.is_short_block-requires
-is_short_block-requires c = omega (arith, c.loop-hour.invariant.0, streak_within (self_scheduled c.args.resource.now) c.loop-hour.hour)
+is_short_block-requires c = omega (arith, c.loop-hour.invariant.0, streak_within (self_scheduled c.args.self.now.resource.now) c.loop-hour.hour)
 
 pub returns-then-is_short_block : goal.returns-then-is_short_block
 returns-then-is_short_block c =
-    let g = c.args.resource.now in
+    let g = c.args.self.now.resource.now in
     let h = c.loop-hour.hour in
     let no : self_scheduled g h ≡ false = sym c.is_self_scheduled.ensures ∙ c.if-is_self_scheduled.false in
     record {
@@ -41,11 +41,11 @@ returns-then-is_short_block c =
     }
 
 pub overflow_add-gap : goal.overflow_add-gap
-overflow_add-gap c = omega (arith, c.loop-hour.invariant.1, streak_within (not_self_scheduled c.args.resource.now) c.loop-hour.hour)
+overflow_add-gap c = omega (arith, c.loop-hour.invariant.1, streak_within (not_self_scheduled c.args.self.now.resource.now) c.loop-hour.hour)
 
 pub loop-hour-preserved : goal.loop-hour-preserved
 loop-hour-preserved c =
-    let g = c.args.resource.now in
+    let g = c.args.self.now.resource.now in
     let h = c.loop-hour.hour in
     elim c.if-is_self_scheduled.branch [
       | then-is_self_scheduled+else-is_short_gap w ↦
@@ -66,6 +66,6 @@ loop-hour-preserved c =
 
 pub returns : goal.returns
 returns c =
-    let g = c.args.resource.now in
+    let g = c.args.self.now.resource.now in
     let e : c.loop-hour.hour ≡ 24 = omega arith in
     record { value = sym c.loop-hour.invariant.2 ∙ ap (qualifies g) e; blocks = by_blocks g }

@@ -4,33 +4,33 @@ use Rattle.std.proofs.lemmas.Bool.{cond-true}
 use Rattle.credits.specs.Cents.{millicents}
 use Rattle.credits.specs.DayAhead.{price, cleared, day_ahead_lmp, scheduled, start_fee}
 use Rattle.credits.proofs.Limits.{price_kept, day_ahead_lmp_kept, cleared_kept}
-use Rattle.credits.proofs.day_ahead.hour_amount.Goals as goal
+use Rattle.credits.proofs.day_ahead.DayAheadDay.amount.Goals as goal
 
 pub worth-cost-requires : goal.worth-cost-requires
 worth-cost-requires c =
-    let p = price_kept c.requires.1 c.args.hour c.requires.0 in
-    let e = cleared_kept c.requires.1 c.args.hour c.requires.0 in
+    let p = price_kept c.args.self.now.kept c.args.hour c.requires in
+    let e = cleared_kept c.args.self.now.kept c.args.hour c.requires in
     ((omega (arith, ints), omega (arith, ints)), (omega (arith, ints), omega (arith, ints)))
 
 pub worth-value-requires : goal.worth-value-requires
 worth-value-requires c =
-    let p = day_ahead_lmp_kept c.requires.1 c.args.hour c.requires.0 in
-    let e = cleared_kept c.requires.1 c.args.hour c.requires.0 in
+    let p = day_ahead_lmp_kept c.args.self.now.kept c.args.hour c.requires in
+    let e = cleared_kept c.args.self.now.kept c.args.hour c.requires in
     ((omega (arith, ints), omega (arith, ints)), (omega (arith, ints), omega (arith, ints)))
 
 pub excess-requires : goal.excess-requires
 excess-requires c =
     let x = c.worth-cost.ensures.small in
     let y = c.worth-value.ensures.small in
-    (omega (arith, c.to_millicents-fees.ensures, c.start_up.ensures.small, c.requires.1.no_load), (omega (arith, ints), (omega (arith, ints), (omega (arith, ints), omega (arith, ints)))))
+    (omega (arith, c.to_millicents-fees.ensures, c.start_up.ensures.small, c.args.self.now.kept.no_load), (omega (arith, ints), (omega (arith, ints), (omega (arith, ints), omega (arith, ints)))))
 
 pub returns : goal.returns
 returns c =
-    let g = c.args.resource.now in
+    let g = c.args.self.now.resource.now in
     let h = c.args.hour in
     let s = c.excess.ensures.small in
-    let fp : SFits w32 (price c.args.resource.now c.args.hour) = search rules in
-    let fl : SFits w32 (day_ahead_lmp c.args.resource.now c.args.hour) = search rules in
+    let fp : SFits w32 (price c.args.self.now.resource.now c.args.hour) = search rules in
+    let fl : SFits w32 (day_ahead_lmp c.args.self.now.resource.now c.args.hour) = search rules in
     let fk : SFits w64 c.from-kwh.result = search rules in
     let fc : SFits w64 c.worth-cost.result = search rules in
     let fv : SFits w64 c.worth-value.result = search rules in
