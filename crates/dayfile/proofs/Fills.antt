@@ -31,10 +31,6 @@ filled {xs} {front} {i} k n ys zs f l e =
       far = length-append front ys ∙ omega (arith, l, f.far);
     }
 
--- a number that was passed on before it was written
-pub passed : (xs : List ℕ) (i w : ℕ) {ys : List ℕ} {n m : ℕ} → ys ≡ laid xs i (digits w n) → n ≡ m → ys ≡ laid xs i (digits w m)
-passed xs i w e f = e ∙ ap (λ k. laid xs i (digits w k)) f
-
 -- k bytes that stay 0
 pub skipped : {xs front : List ℕ} {i : ℕ} (k n : ℕ) → Filled xs front i (k + n) → Filled xs (front ++ zeros k) (i + k) n
 skipped {xs} {front} {i} k n f =

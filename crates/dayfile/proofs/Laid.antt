@@ -1,7 +1,7 @@
 -- Writing over a part of a list.
 use Rattle.std.proofs.Common.{◌≡◌, ℕ, suc, ◌+◌, ◌-◌, ◌*◌, ◌<◌, ◌≤◌, List, [], ◌∷◌, ◌++◌, length, get_or, take, drop, set, sym, refl, ap, ◌∙◌, add-zero, arith}
 use Rattle.std.specs.List.{flat_map}
-use Rattle.std.proofs.lemmas.List.{take-append-drop, take_more_set, drop-set-lt, append_assoc, length-set, take_at, drop_at, drop-drop, drop-replicate, drop_more, drop_all}
+use Rattle.std.proofs.lemmas.List.{take-append-drop, take_more_set, drop-set-lt, append_assoc, length-set, take_at, drop_at, drop-drop, drop-replicate, drop_more}
 use Rattle.dayfile.specs.Bytes.{laid, zeros}
 use Rattle.dayfile.proofs.Each.{add_one_mul}
 
@@ -62,6 +62,3 @@ laid_next write w long xs ys at vs j v l h e f =
     ∙ ap (λ t. laid t (p + w) rest) f
     ∙ ap (λ y. laid (laid xs p (write y)) (p + w) rest) e
     ∙ sym (laid_more write w long xs p vs j v l h)
-
-pub laid_all : {A : Type 0} (write : A → List ℕ) (xs : List ℕ) (p : ℕ) (vs : List A) (j : ℕ) → length vs ≤ j → laid xs p (flat_map write (drop j vs)) ≡ xs
-laid_all write xs p vs j l = ap (λ t. laid xs p (flat_map write t)) (drop_all j vs l) ∙ laid_nil xs p

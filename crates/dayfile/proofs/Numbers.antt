@@ -71,14 +71,12 @@ number_padded [] zero = refl
 number_padded [] (suc k) = let e : number (replicate k 0) ≡ 0 = number_padded [] k in omega (arith, e)
 number_padded (b ∷ bs) k = ap (λ n. b + 256 * n) (number_padded bs k)
 
--- what is left of a list, with zeros behind it
-pub value_padded : (at n : ℕ) (bs rest xs : List ℕ) → rest ≡ drop at bs → length rest < n → xs ≡ rest
-    → number (xs ++ drop (length rest) (replicate n 0)) ≡ value at n bs
-value_padded at n bs rest xs e l f =
-    ap (λ t. number (t ++ drop (length rest) (replicate n 0))) f
-    ∙ ap (λ t. number (rest ++ t)) (drop-replicate (length rest) n 0)
-    ∙ number_padded rest (n - length rest)
-    ∙ ap number (sym (take_all n rest (omega arith)) ∙ ap (take n) e)
+-- bytes written over the first of n zeros
+pub number_over : (n : ℕ) (bs xs : List ℕ) → xs ≡ bs → number (xs ++ drop (length bs) (replicate n 0)) ≡ number bs
+number_over n bs xs e =
+    ap (λ t. number (t ++ drop (length bs) (replicate n 0))) e
+    ∙ ap (λ t. number (bs ++ t)) (drop-replicate (length bs) n 0)
+    ∙ number_padded bs (n - length bs)
 
 -- the number of two bytes, and of four
 pub number_two : (bs : List ℕ) → length bs ≡ 2 → number bs ≡ get_or bs 0 0 + 256 * get_or bs 1 0

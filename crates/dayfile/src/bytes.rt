@@ -29,11 +29,20 @@ fn bytes_at<const N: usize>(bytes: &[u8], at: usize) -> [u8; N]
     ensures { number result ≡ value at N bytes.now }
 {
     let rest = bytes.get(at..).unwrap_or(&[]);
-    if let Some(whole) = rest.first_chunk::<N>() {
-        return *whole;
+    match rest.first_chunk() {
+        Some(whole) => *whole,
+        None => padded(rest),
     }
+}
+
+/// Fewer than `N` bytes, with zeros behind them.
+#[cold]
+fn padded<const N: usize>(bytes: &[u8]) -> [u8; N]
+    requires { length bytes.now < N }
+    ensures { number result ≡ number bytes.now }
+{
     let mut padded = [0; N];
-    padded[..rest.len()].copy_from_slice(rest);
+    padded[..bytes.len()].copy_from_slice(bytes);
     padded
 }
 
