@@ -105,13 +105,12 @@ pub record Turned (f was out made : List ℕ) (k : ℕ) (answer : Result (Unit {
   pub front : take (512 * k) out ++ (made ++ drop (length out - 512 * k) (drop (512 * k) out)) ≡ take (512 * (k + 1)) f ++ drop (512 * (k + 1)) was
 
 pub turned : (f was out made : List ℕ) (k : ℕ) (r : Record) (answer : Result (Unit {0}) Fault) → Bytes f → Passed f → k < blocks f → length f ≤ length was
-    → out ≡ take (512 * k) f ++ drop (512 * k) was → Some r ≡ record_at f k → Writes r (take (length out - 512 * k) (drop (512 * k) out)) answer made → Turned f was out made k answer
-turned f was out made k r answer h p l m e q w =
+    → out ≡ take (512 * k) f ++ drop (512 * k) was → r ≡ record_of (block f k) → Writes r (take (length out - 512 * k) (drop (512 * k) out)) answer made → Turned f was out made k answer
+turned f was out made k r answer h p l m e rec w =
     let rest = take (length out - 512 * k) (drop (512 * k) out) in
     let lo : length out ≡ length was = ap length e ∙ length-append (take (512 * k) f) (drop (512 * k) was) ∙ omega (arith, length-take-le (512 * k) f (omega (arith, p.whole)), length-drop (512 * k) was) in
     let ld = length-drop (512 * k) out in
     let same : take (length out - 512 * k) (drop (512 * k) out) ≡ drop (512 * k) out = take_all (length out - 512 * k) (drop (512 * k) out) (omega (arith, ld)) in
-    let rec : r ≡ record_of (block f k) = some_same (q ∙ cond-true (ltb k (blocks f)) (Some (record_of (block f k))) None (lt-ltb k (blocks f) l)) in
     let room : 512 ≤ length (take (length out - 512 * k) (drop (512 * k) out)) = omega (arith, ap length same, ld, lo, p.whole) in
     let n : unwritten r (length (take (length out - 512 * k) (drop (512 * k) out))) ≡ None = ap (λ x. unwritten x (length rest)) rec ∙ block_unrefused f h p k l (length rest) room in
     let d = done_none (unwritten r (length rest)) rest (encode r ++ drop 512 rest) answer made n w in

@@ -16,6 +16,7 @@ pub mod Keepings
 pub mod Tells
 pub mod Walks
 pub mod Chunks
+pub mod Turns
 pub mod FirstRules
 pub mod RuleLaws
 pub mod Chains

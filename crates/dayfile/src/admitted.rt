@@ -68,11 +68,9 @@ pub fn write_day(day: &AdmittedDay<'_>, out: &mut [u8]) -> Result<(), Fault>
     if out.len() < day.file.len() {
         return Err(Fault::Room);
     }
-    for k in 0..day.blocks() {
-        // every block has a record, and none of an admitted day is refused
-        if let Some(record) = day.record(k) {
-            write_record(&record, &mut out[BLOCK * k..])?;
-        }
+    for (k, block) in day.iter().enumerate() {
+        // no record of an admitted day is refused
+        write_record(&block.record(), &mut out[BLOCK * k..])?;
     }
     Ok(())
 }

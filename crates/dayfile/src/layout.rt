@@ -529,9 +529,9 @@ fn add_row(once: &mut [u32; 16], often: &mut [u32; 16], row: &[u8])
     ensures weighed { weighed 0 once.new ≡ weighed 0 once.old + weighed 0 row.now }
     ensures often { sum often.new ≡ sum often.old + sum (take (length row.now) once.old) }
 {
-    for k in 0..row.len() {
+    for (k, byte) in row.iter().enumerate() {
         often[k] += once[k];
-        once[k] += row[k] as u32;
+        once[k] += *byte as u32;
     }
 }
 
@@ -541,8 +541,8 @@ fn columns_sum(once: &[u32; 16], often: &[u32; 16]) -> u32
     ensures { result ≡ weighed 0 once.now + 16 * sum often.now }
 {
     let mut total: u32 = 0;
-    for k in 0..16 {
-        total += (k as u32 + 1) * once[k] + 16 * often[k];
+    for (k, column) in once.iter().enumerate() {
+        total += (k as u32 + 1) * *column + 16 * often[k];
     }
     total
 }
