@@ -1,6 +1,7 @@
 use Rattle.std.proofs.Common.{◌≡◌, ◌+◌, ◌-◌, ◌*◌, ◌/◌, ◌%◌, ◌≤◌, map, get_or, sym, ap, ◌∙◌, arith, rules}
 use Rattle.std.proofs.lemmas.Nat.{mul-le}
 use Rattle.std.proofs.lemmas.List.{length-map}
+use Rattle.division.specs.declared.few.TheConstants.{MOST_CENTS}
 use Rattle.division.specs.Division.{whole_part, remainder}
 use Rattle.division.proofs.Tallies.{tally_more}
 use Rattle.division.proofs.Weights.{weight_at, whole_is, remainder_is, wholes_more, left_all}
@@ -11,7 +12,7 @@ use Rattle.division.proofs.few.note_parts.Goals as goal
 pub overflow_mul-exact : goal.overflow_mul-exact
 overflow_mul-exact g c =
     let light : c.from.result ≤ 100000000 = omega (arith, g.T.Weighted.lawful.light c.index-records-i.result) in
-    let m : c.args.cents * c.from.result ≤ 100000000000 * 100000000 = mul-le c.args.cents c.from.result 100000000000 100000000 c.requires.sizes.0 light in
+    let m : c.args.cents * c.from.result ≤ MOST_CENTS * 100000000 = mul-le c.args.cents c.from.result MOST_CENTS 100000000 c.requires.sizes.0 light in
     search rules
 
 -- the exact share of the record
