@@ -55,8 +55,14 @@ fn hour_row(unit: &ResourceDay, cents: &HourlyCents, hour: usize) -> PoolAmounts
     ensures { result ≡ by_pool (cell unit.now hour) }
 {
     let mut row = PoolAmounts::none();
-    row.add(unit.pool(Market::DayAhead, hour), cents.day_ahead.cents[hour]);
-    row.add(unit.pool(Market::RealTime, hour), cents.real_time.cents[hour]);
+    row.add(
+        unit.pool(Market::DayAhead, hour),
+        cents.day_ahead.cents[hour],
+    );
+    row.add(
+        unit.pool(Market::RealTime, hour),
+        cents.real_time.cents[hour],
+    );
     row
 }
 

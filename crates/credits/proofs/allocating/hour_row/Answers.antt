@@ -6,7 +6,7 @@ use Rattle.credits.specs.Resources.{ResourceDay}
 use Rattle.credits.specs.declared.pool.Market.TheVariants.{DayAhead, RealTime}
 use Rattle.credits.specs.declared.hourly.HourlyCents.{HourlyCents}
 use Rattle.credits.specs.Grids.{market_pool, cell, Allotted}
-use Rattle.credits.proofs.Cells.{get_or_small, get_or_pool, pool_added_to}
+use Rattle.credits.proofs.Cells.{get_or_pool, pool_added_to}
 use Rattle.credits.proofs.allocating.hour_row.Goals as goal
 
 -- one amount in an empty row

@@ -5,7 +5,6 @@ use Rattle.credits.specs.Resources.{ResourceDay, Kept}
 use Rattle.credits.specs.Grids.{cell, amount}
 use Rattle.credits.specs.Owning.{owner_places, owner_parts, owned_cents, of_owner}
 use Rattle.credits.specs.Crediting.{resource_credit}
-use Rattle.credits.proofs.Cells.{get_or_small}
 use Rattle.credits.proofs.Made.{mapped}
 use Rattle.credits.proofs.Sharing.{no_owner, no_share}
 use Rattle.credits.proofs.Totals.{total_more}
