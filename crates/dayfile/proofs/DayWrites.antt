@@ -13,7 +13,7 @@ use Rattle.dayfile.specs.Layout.{first_fault, table_for}
 use Rattle.dayfile.specs.Records.{record_of, encode, body, kind_of}
 use Rattle.dayfile.specs.Writing.{record_owned, unwritten, Done, Writes}
 use Rattle.dayfile.specs.Files.{tally, standing, block, blocks}
-use Rattle.dayfile.specs.Days.{records, record_at, WritesDay}
+use Rattle.dayfile.specs.Days.{records, WritesDay}
 use Rattle.dayfile.proofs.Numbers.{Bytes, bytes_drop}
 use Rattle.dayfile.proofs.OwnerRules.{kept_owned, owned_kept}
 use Rattle.dayfile.proofs.Chains.{BlockGood, block_good, bytes_take}

@@ -1,8 +1,7 @@
-use Rattle.std.proofs.Common.{◌≡◌, ℕ, ◌+◌, ◌*◌, ◌<◌, ◌++◌, length, take, drop, Some, sym, refl, ap, ◌∙◌, arith}
+use Rattle.std.proofs.Common.{◌≡◌, ℕ, ◌*◌, ◌++◌, length, take, drop, sym, refl, ap, ◌∙◌, arith}
 use Rattle.std.proofs.lemmas.List.{take_all}
 use Rattle.dayfile.specs.declared.day.AdmittedDay.{AdmittedDay}
-use Rattle.dayfile.specs.Records.{record_of}
-use Rattle.dayfile.specs.Files.{block, blocks}
+use Rattle.dayfile.specs.Files.{blocks}
 use Rattle.dayfile.proofs.Turns.{turn}
 use Rattle.dayfile.proofs.FileLaws.{passed, accepted_none, records_again}
 use Rattle.dayfile.proofs.DayWrites.{day_refused, day_written, turned}
