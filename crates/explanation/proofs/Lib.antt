@@ -2,6 +2,7 @@ mod Cuts
 mod Follows
 mod Sums
 mod Standing
+mod Chunks
 mod Slots
 mod Rules
 mod Rows

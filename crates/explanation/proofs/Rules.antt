@@ -9,7 +9,7 @@ use Rattle.std.proofs.lemmas.Bool.{eq-eqb, ne_eqb, lt-ltb, le-ltb, le-leb, lt-le
 use Rattle.dayfile.specs.declared.record.Owner.{Owner}
 use Rattle.dayfile.specs.Owners.{parts_of}
 use Rattle.explanation.specs.declared.finding.OwnersRule.{OwnersRule}
-use Rattle.explanation.specs.declared.finding.OwnersRule.TheVariants.{Rising, Below, Parts, Sum, Unused}
+use Rattle.explanation.specs.declared.finding.OwnersRule.TheVariants.{Rising, Below, Parts, Unused}
 use Rattle.explanation.specs.Shares.{used_rule, sum_rule, in_use, unused_rule, owners_rule}
 use Rattle.dayfile.proofs.Cuts.{take_min, drop_min}
 use Rattle.explanation.proofs.Follows.{none_where}

@@ -39,13 +39,10 @@ pub(crate) fn count_before(file: &[u8], k: usize, letter: u8) -> usize
     requires { 0 < letter }
     ensures { result ≡ tally letter file.now k }
 {
-    let mut count = 0;
-    for i in 0..k.min(file.len() / BLOCK + 1) {
-        if kind_at(file, i) == letter {
-            count += 1;
-        }
-    }
-    count
+    file.chunks(BLOCK)
+        .take(k)
+        .filter(|block| byte_at(block, 0) == letter)
+        .count()
 }
 
 /// The number in the last block before block `k` that begins with a letter, or 0.
@@ -53,12 +50,9 @@ pub(crate) fn last_before(file: &[u8], k: usize, letter: u8) -> u32
     requires { 0 < letter }
     ensures { result ≡ unwrap_or (latest letter file.now k) 0 }
 {
-    let mut last = 0;
-    for i in 0..k.min(file.len() / BLOCK + 1) {
-        let block = block_at(file, i);
-        if byte_at(block, 0) == letter {
-            last = word_at(block, 4);
-        }
-    }
-    last
+    file.chunks(BLOCK)
+        .take(k)
+        .filter(|block| byte_at(block, 0) == letter)
+        .last()
+        .map_or(0, |block| word_at(block, 4))
 }

@@ -18,8 +18,8 @@ pub(crate) fn broken_rule(owners: &[Owner], count: usize, limit: usize) -> Optio
 {
     let (used, rest) = owners.split_at(count.min(owners.len()));
     broken_by_one(used, limit)
-        .or(broken_by_sum(used))
-        .or(broken_by_unused(rest, count))
+        .or_else(|| broken_by_sum(used))
+        .or_else(|| broken_by_unused(rest, count))
 }
 
 /// The first used slot that breaks a rule.

@@ -101,14 +101,12 @@ fn explain_rising(file: &[u8], k: usize) -> Finding
 fn explain_owners(block: &[u8], participants: usize) -> Finding
     ensures { result ≡ owners_finding participants block.now }
 {
-    match broken_rule(
+    broken_rule(
         &owners_of(block),
-        byte_at(block, 113) as usize,
+        usize::from(byte_at(block, 113)),
         participants,
-    ) {
-        Some(rule) => Finding::Owners(rule),
-        None => Finding::Other,
-    }
+    )
+    .map_or(Finding::Other, Finding::Owners)
 }
 
 /// The counts that the day's own block says, and those of the blocks.

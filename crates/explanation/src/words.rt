@@ -1,9 +1,9 @@
-//! Findings and layers in words.
+//! Findings in words.
 ghost use Rattle.std.specs.Prelude.{Some};
 ghost use Rattle.explanation.specs.Texts.{field_text};
 
 use crate::finding::{Count, FieldName, Finding, NamedField, OwnersRule};
-use dayfile::{BLOCK, LONGEST, Layer};
+use dayfile::{BLOCK, LONGEST};
 use std::fmt;
 
 /// One sentence: the field or rule, what was found, and what is allowed.
@@ -258,20 +258,5 @@ impl FieldName {
             | FieldName::RealTimeFlag => Some("hour"),
             _ => None,
         }
-    }
-}
-
-/// A layer's name in words.
-pub fn layer_name(layer: Layer) -> &'static str {
-    match layer {
-        Layer::File => "file",
-        Layer::Block => "block",
-        Layer::End => "end",
-        Layer::Settling => "settling",
-        Layer::Posting => "posting",
-        Layer::Withdrawing => "withdrawing",
-        Layer::Closing => "closing",
-        Layer::Writing => "writing",
-        Layer::Grid => "grid",
     }
 }

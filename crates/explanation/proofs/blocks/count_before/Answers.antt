@@ -1,26 +1,16 @@
-use Rattle.std.proofs.Common.{◌≡◌, sym, refl, ◌∙◌, arith}
-use Rattle.dayfile.specs.Files.{tally}
-use Rattle.explanation.proofs.Standing.{tally_same, tally_other, tally_min}
+use Rattle.std.proofs.Common.{sym, ap, ◌∙◌, length, filter, arith, rules}
+use Rattle.explanation.proofs.Chunks.{chunks_of, begins, tally_of}
 use Rattle.explanation.proofs.blocks.count_before.Goals as goal
-use Rattle.explanation.proofs.blocks.count_before.Goals.{then-kind_at-letter, else-kind_at-letter}
-
-pub loop-i-init : goal.loop-i-init
-unfolding tally
-loop-i-init c = (refl, omega arith)
-
-pub loop-i-preserved : goal.loop-i-preserved
-loop-i-preserved c =
-    let k = sym c.kind_at.ensures in
-    elim c.if-kind_at-letter.branch [
-      | then-kind_at-letter w ↦
-          let m = tally_same c.args.letter c.args.file.now c.loop-i.i (k ∙ w.if-kind_at-letter.true) in
-          (omega (arith, m, w.count-is), omega (arith, w.count-is))
-      | else-kind_at-letter w ↦
-          let m = tally_other c.args.letter c.args.file.now c.loop-i.i (λ e. w.if-kind_at-letter.false (sym k ∙ e)) in
-          (omega (arith, m, w.count-is), omega (arith, w.count-is))
-    ]
 
 pub returns : goal.returns
 returns c =
-    let e : c.loop-i.i ≡ c.min-i-end.result = omega arith in
-    c.loop-i.invariant.0 ∙ tally_min c.args.letter c.args.file.now c.args.k c.loop-i.i c.requires (e ∙ c.min-i-end.ensures)
+    let p = c.count.ensures.runs in
+    let q = c.filter.ensures.runs p.0 p.0.seen p.1 in
+    let t = c.take.ensures.runs q.0 q.0.seen q.1 in
+    let r = t.1 in
+    let s = ap (λ x. x.size) r.1 ∙ c.chunks.ensures.size in
+    let u = ap (λ x. x.rest.now) r.1 ∙ c.chunks.ensures.rest in
+    let w = chunks_of r.0 r.0.from.size r.0.from.rest.now c.args.file.now s u (c.chunks.ensures.runs r.0 r.0.seen (omega (arith, s))) in
+    let e = q.2.4 (begins c.args.letter) (λ x b f' k. (search rules, search rules)) in
+    p.3 ∙ p.0.long ∙ ap length e ∙ ap (λ xs. length (filter (begins c.args.letter) xs)) (sym r.2.0.1)
+    ∙ tally_of r.0 c.args.file.now c.args.letter c.args.k c.args.file c.requires w (omega (arith, t.0, r.2.0.0)) (λ l. r.2.1 (q.2.0 ∙ p.2) (omega (arith, l, r.2.0.0)))

@@ -1,30 +1,20 @@
-use Rattle.std.proofs.Common.{◌≡◌, get_or, unwrap_or, sym, refl, ap, ◌∙◌, arith}
-use Rattle.dayfile.specs.Bytes.{value}
-use Rattle.dayfile.specs.Files.{latest, kind}
-use Rattle.explanation.proofs.Standing.{latest_same, latest_other, latest_min}
+use Rattle.std.proofs.Common.{◌≡◌, None, unwrap_or, sym, ap, ◌∙◌, filter, arith, rules}
+use Rattle.std.specs.List.{last_or}
+use Rattle.explanation.proofs.Chunks.{chunks_of, begins, number, last_of, latest_of}
 use Rattle.explanation.proofs.blocks.last_before.Goals as goal
-use Rattle.explanation.proofs.blocks.last_before.Goals.{then-byte_at-letter, else-byte_at-letter}
-
-pub loop-i-init : goal.loop-i-init
-unfolding latest
-loop-i-init c = refl
-
-pub loop-i-preserved : goal.loop-i-preserved
-loop-i-preserved c =
-    let f = c.args.file.now in
-    let i = c.loop-i.i in
-    let b = c.block_at-block.ensures in
-    let k : kind c.args.file.now c.loop-i.i ≡ c.byte_at.result = sym (c.byte_at.ensures ∙ ap (λ x. get_or x 0 0) b) in
-    elim c.if-byte_at-letter.branch [
-      | then-byte_at-letter w ↦
-          w.last-is ∙ w.word_at-last.ensures ∙ ap (value 4 4) b ∙ sym (latest_same c.args.letter f i (k ∙ w.if-byte_at-letter.true))
-      | else-byte_at-letter w ↦
-          w.last-is ∙ c.loop-i.invariant
-          ∙ sym (ap (λ o. unwrap_or o 0) (latest_other c.args.letter f i (λ e. w.if-byte_at-letter.false (sym k ∙ e))))
-    ]
 
 pub returns : goal.returns
 returns c =
-    let e : c.loop-i.i ≡ c.min-i-end.result = omega arith in
-    c.loop-i.invariant
-    ∙ ap (λ o. unwrap_or o 0) (latest_min c.args.letter c.args.file.now c.args.k c.loop-i.i c.requires (e ∙ c.min-i-end.ensures))
+    let p = c.last.ensures.runs in
+    let q = c.filter.ensures.runs p.0 p.0.seen p.1 in
+    let t = c.take.ensures.runs q.0 q.0.seen q.1 in
+    let r = t.1 in
+    let s = ap (λ x. x.size) r.1 ∙ c.chunks.ensures.size in
+    let u = ap (λ x. x.rest.now) r.1 ∙ c.chunks.ensures.rest in
+    let w = chunks_of r.0 r.0.from.size r.0.from.rest.now c.args.file.now s u (c.chunks.ensures.runs r.0 r.0.seen (omega (arith, s))) in
+    let e = q.2.4 (begins c.args.letter) (λ x b f' k. (search rules, search rules)) in
+    let m : c.map_or.result ≡ unwrap_or (number c.last.result) 0 = search rules in
+    m ∙ ap (λ o. unwrap_or (number o) 0) (last_of p.0 c.last.result p.3)
+    ∙ ap (λ xs. unwrap_or (number (last_or None xs)) 0) (e ∙ ap (filter (begins c.args.letter)) (sym r.2.0.1))
+    ∙ ap (λ o. unwrap_or o 0)
+    (latest_of r.0 c.args.file.now c.args.letter c.args.k c.args.file c.requires w (omega (arith, t.0, r.2.0.0)) (λ l. r.2.1 (q.2.0 ∙ p.2) (omega (arith, l, r.2.0.0))))
