@@ -1,11 +1,8 @@
 //! Refusals: the number on standard output, the place and the reason on standard error.
-use credits::{Grid, hourly_allocation};
+use credits::{DEAREST_POOL, Grid, hourly_allocation};
 use dayfile::{AdmittedDay, Fault, Place, Record};
 use explanation::{PlaceLines, PoolName, explain, first_misfit};
 use std::io;
-
-/// The most that a pool may cost in a day, in cents.
-const DEAREST_POOL: u64 = 10_000_000_000;
 
 /// Tells that a file is refused.
 pub fn refuse_file(rt: &(impl Print + Eprint), fault: Fault, file: &[u8]) -> io::Result<()> {

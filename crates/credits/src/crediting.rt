@@ -21,7 +21,7 @@ use dayfile::{AdmittedDay, Fault, Record};
 use std::array;
 
 /// The most that a pool may cost in a day, in cents.
-const DEAREST_POOL: u64 = 10_000_000_000;
+pub const DEAREST_POOL: u64 = 10_000_000_000;
 
 impl Credits {
     /// No participants, and nothing credited. It fills a place before a day is credited.

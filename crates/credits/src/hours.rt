@@ -7,10 +7,7 @@ use crate::cents::to_cents;
 use crate::claim::Claim;
 use crate::hourly::HourCents;
 use crate::share::HourShare;
-use division::{Weighted, divide};
-
-/// The most that a record may weigh.
-pub(crate) const HEAVIEST: u32 = 100_000_000;
+use division::{HEAVIEST, Weighted, divide};
 
 impl Weighted for HourShare {
     ghost weighs = { λ x. cut (shared_kwh x) };

@@ -43,7 +43,7 @@ mod walking;
 
 pub use allocating::hourly_allocation;
 pub use amounts::{POOLS, PoolAmounts};
-pub use crediting::credit;
+pub use crediting::{DEAREST_POOL, credit};
 pub use credits::{Credits, PLACES};
 pub use grid::Grid;
 pub use pool::Market;

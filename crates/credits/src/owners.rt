@@ -6,10 +6,9 @@ ghost use Rattle.credits.specs.Grids.{amount, Below};
 ghost use Rattle.credits.specs.Owning.{owned_cents, booked};
 
 use crate::amounts::Pool;
-use crate::hours::HEAVIEST;
 use crate::owner::OwnerShare;
 use crate::table::Table;
-use division::{Placed, Weighted, divide};
+use division::{HEAVIEST, Placed, Weighted, divide};
 
 /// The last place of a participant.
 const LAST_PLACE: u16 = 47;

@@ -1,6 +1,6 @@
 //! A weighted record for whatever it stands for.
 ghost use Rattle.std.specs.Prelude.{◌≡◌, min, refl};
-ghost use Rattle.std.proofs.Common.{arith};
+ghost use Rattle.division.specs.Records.{cut_light};
 ghost use Rattle.division.specs.declared.portion.TheConstants.{HEAVIEST};
 
 use crate::weighted::Weighted;
@@ -38,7 +38,7 @@ impl<T> Weighted for Portion<T> {
 
     ghost given = { λ p cents. record { item = p.item; weight = p.weight; cents = cents } };
 
-    ghost lawful = { record { light = λ p. Prim.omega arith; holding = λ _ _. refl; weighing = λ _ _. refl; again = λ _ _ _. refl; back = λ _. refl } };
+    ghost lawful = { record { light = λ p. cut_light p.weight; holding = λ _ _. refl; weighing = λ _ _. refl; again = λ _ _ _. refl; back = λ _. refl } };
 
     fn weight(&self) -> u32 {
         self.weight.min(HEAVIEST)
