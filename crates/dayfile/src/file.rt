@@ -75,9 +75,6 @@ pub fn read_block<'f>(block: &'f [u8; 512]) -> Result<Block<'f>, Fault>
     ensures encoded_again { IfOk result (λ b. encode (shown b) ≡ block.now) }
 {
     judge_alone(block)?;
-    match parts(block) {
-        Some(parts) => Ok(parts),
-        // does not happen: the kind of a block without a fault is known
-        None => Err(Fault::Order { block: 0 }),
-    }
+    // always some: the kind of a block without a fault is known
+    parts(block).ok_or(Fault::Order { block: 0 })
 }
