@@ -17,7 +17,7 @@ pub(crate) fn number_at(bytes: &[u8], at: usize, width: usize) -> u32
     }
 }
 
-/// The sum of (i + 1) times byte i over the first 508 bytes.
+/// The sum of (i + 1) times byte i over the first 508 bytes, of a block that may be short, as the last one of a refused file.
 pub(crate) fn check_of(block: &[u8]) -> u32
     ensures { result ≡ weighed 0 (take 508 block.now) }
 {

@@ -12,7 +12,7 @@ pub enum Finding {
         stated: u32,
         computed: u32,
     },
-    /// A block begins with a letter that may not stand behind the block before it, or first.
+    /// A block begins with a letter that may not stand behind the block before it, or first; it may be any byte.
     Kind {
         found: u8,
         before: Option<u8>,

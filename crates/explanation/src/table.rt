@@ -6,7 +6,7 @@ ghost use Rattle.explanation.specs.Findings.{told};
 use crate::bytes::number_at;
 use crate::finding::{FieldName, Finding, NamedField};
 
-/// What a field may hold.
+/// What a field may hold. The rows have names, which the tables that judge a block have not.
 #[derive(Clone, Copy)]
 pub(crate) enum Content {
     /// A byte that no field has: 0.
@@ -447,6 +447,7 @@ pub(crate) fn row_at(rows: &[Row], byte: usize) -> Option<Row>
     requires { all_steady rows.now ≡ true }
     ensures { result ≡ row_at rows.now byte }
 {
+    // A loop and not `find`: what `has` asks of a row is known of the rows here, and not in a closure.
     for row in rows {
         if row.has(byte) {
             return Some(*row);
