@@ -12,21 +12,17 @@ use std::process::ExitCode;
 /// What is read of the input: a byte more than the longest file has, so that a longer one is still refused.
 const READ: u64 = LONGEST as u64 + 1;
 
-fn main(rt: HostRuntime) -> anyhow::Result<ExitCode> {
-    check_input(&rt)
-}
-
 /// Checks the file on standard input and prints the answer; the status says whether the file is accepted.
-fn check_input(rt: &HostRuntime) -> anyhow::Result<ExitCode> {
+fn main(rt: HostRuntime) -> anyhow::Result<ExitCode> {
     let mut bytes = Vec::new(rt.alloc());
     rt.stdin().take(READ).read_to_end(&mut bytes)?;
     let file = bytes.as_slice();
     let mut day = AdmittedDay::built_in();
     if let Err(fault) = admit(file, &mut day) {
-        print_refusal(rt, fault, file)?;
+        print_refusal(&rt, fault, file)?;
         return Ok(ExitCode::FAILURE);
     }
-    print_day(rt, day.header())?;
+    print_day(&rt, day.header())?;
     Ok(ExitCode::SUCCESS)
 }
 

@@ -23,14 +23,10 @@ const CASES: &str = "cases.bin";
 const DIVISIONS: &str = "divisions.bin";
 
 fn main(rt: HostRuntime) -> anyhow::Result<()> {
-    run(&rt)
-}
-
-fn run(rt: &HostRuntime) -> anyhow::Result<()> {
     let mut lines = String::new(rt.alloc());
-    let cases = fs::read(rt, CASES)?;
+    let cases = fs::read(&rt, CASES)?;
     answer_all(cases.as_slice(), rt.alloc(), &mut lines)?;
-    let divisions = fs::read(rt, DIVISIONS)?;
+    let divisions = fs::read(&rt, DIVISIONS)?;
     divide_all(divisions.as_slice(), rt.alloc(), &mut lines)?;
     rt.print(lines.as_str())?;
     Ok(())

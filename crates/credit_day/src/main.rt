@@ -19,13 +19,9 @@ use task::{Task, read_task};
 /// What is read of the input: a byte more than the longest file has, so that a longer one is still refused.
 const READ: u64 = LONGEST as u64 + 1;
 
-fn main(rt: HostRuntime) -> anyhow::Result<ExitCode> {
-    answer(&rt)
-}
-
 /// Does what the arguments ask of the file on standard input; the status says whether it could be done.
-fn answer(rt: &HostRuntime) -> anyhow::Result<ExitCode> {
-    let Some(task) = read_task(rt)? else {
+fn main(rt: HostRuntime) -> anyhow::Result<ExitCode> {
+    let Some(task) = read_task(&rt)? else {
         eprintln!(rt; "say nothing for the credits of the day, or: grid RESOURCE")?;
         return Ok(ExitCode::FAILURE);
     };
@@ -34,12 +30,12 @@ fn answer(rt: &HostRuntime) -> anyhow::Result<ExitCode> {
     let file = bytes.as_slice();
     let mut day = AdmittedDay::built_in();
     if let Err(fault) = admit(file, &mut day) {
-        refuse_file(rt, fault, file)?;
+        refuse_file(&rt, fault, file)?;
         return Ok(ExitCode::FAILURE);
     }
     match task {
-        Task::Credits => answer_credits(rt, &day),
-        Task::Grid { resource } => answer_grid(rt, &day, resource),
+        Task::Credits => answer_credits(&rt, &day),
+        Task::Grid { resource } => answer_grid(&rt, &day, resource),
     }
 }
 
