@@ -4,7 +4,7 @@ use dayfile::Flag;
 
 /// The number of an hour's pool, by its flag and the Resource's region.
 pub fn pool_of(market: Market, flag: Flag, region: u8) -> usize {
-    let region = region as usize;
+    let region = usize::from(region);
     match (market, flag) {
         // no admitted day has SCR day-ahead
         (Market::DayAhead, Flag::Economic | Flag::Scr) => 1,

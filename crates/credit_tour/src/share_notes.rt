@@ -26,7 +26,10 @@ pub fn note_hours(
 
 /// The kWh of all hours that share.
 fn kwh_of(hours: &[Portion<usize>; 24]) -> u64 {
-    hours.iter().map(|hour| u64::from(hour.weight)).sum()
+    hours.iter().fold(
+        0,
+        |kwh: u64, hour| kwh.saturating_add(u64::from(hour.weight)),
+    )
 }
 
 /// Notes an hour that shares.
@@ -81,17 +84,20 @@ fn note_shares(
         cents,
         ..
     } = *part;
-    let mut owners = resource
-        .owners
-        .map(|owner| Portion::new(owner.place as usize, owner.parts));
+    let mut owners = resource.owners.map(|owner| Portion::new(
+        usize::from(owner.place),
+        owner.parts,
+    ));
     let _ = divide(cents, &mut owners);
     print!(rt; "   hour {hour}, pool {pool}: {cents}")?;
     let mut sign = "=";
-    for owner in owners.iter().filter(|owner| owner.weight > 0) {
-        let share = owner.cents;
-        print!(rt; " {sign} {share}")?;
-        sign = "+";
-        book(owner, pool, booked);
+    for owner in &owners {
+        if owner.weight > 0 {
+            let share = owner.cents;
+            print!(rt; " {sign} {share}")?;
+            sign = "+";
+            book(owner, pool, booked);
+        }
     }
     println!(rt; "")
 }
