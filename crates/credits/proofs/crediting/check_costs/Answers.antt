@@ -5,15 +5,7 @@ use Rattle.credits.specs.Crediting.{column}
 use Rattle.credits.proofs.Costs.{costs_fit, first_dear}
 use Rattle.credits.proofs.crediting.check_costs.Goals as goal
 
-pub loop-pool-init : goal.loop-pool-init
-loop-pool-init c = λ p l h. absurd (omega arith)
 
-pub loop-pool-preserved : goal.loop-pool-preserved
-loop-pool-preserved c p l h =
-    elim (cases_eq p c.loop-pool.pool) [
-      | inl e ↦ omega (arith, ap (column c.args.amounts.now.rows) e, c.pool_total.ensures, c.if-pool_total-gt-DEAREST_POOL.false)
-      | inr ne ↦ c.loop-pool.invariant p l (omega arith)
-    ]
 
 pub returns : goal.returns
 returns c = sym (ap refused_by (costs_fit (column c.args.amounts.now.rows) 21 (λ p l h. c.loop-pool.invariant p l (omega arith))))

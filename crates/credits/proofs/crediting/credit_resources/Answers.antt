@@ -17,12 +17,6 @@ loop-unit-init c =
     ∙ ap (λ b. resources_behind b s.day.now.file.now) c.resources-unit-items.ensures.0 ∙ ap (λ (d : AdmittedDay). resources_behind 0 d.file.now) c.resources-unit-items.ensures.1 in
     subst (λ xs. CreditedTo f xs c.args.amounts.now.rows) (sym all) (credited_none f c.args.amounts.now.rows (day_resources c.args.day.now) c.requires)
 
-pub credit_resource-requires : goal.credit_resource-requires
-credit_resource-requires c =
-    let f = c.args.day.now.file.now in
-    let rows = c.loop-unit.amounts.rows in
-    let before = subst (λ xs. CreditedTo f xs rows) c.in-Some.ensures.steps c.loop-unit.invariant in
-    λ i p. omega (arith, credited_few f rows c.in-Some.unit _ before i p)
 
 pub loop-unit-preserved : goal.loop-unit-preserved
 loop-unit-preserved c =

@@ -7,17 +7,7 @@ use Rattle.credits.proofs.Rows.{below_from}
 use Rattle.credits.proofs.Sharing.{held_small, booked_more, add_again, add_few}
 use Rattle.credits.proofs.owners.book.Goals as goal
 
-pub loop-record-init : goal.loop-record-init
-loop-record-init g c = (c.requires.small.0, λ i p _ _ _. grind (arith, nat_tests))
 
-pub add-requires : goal.add-requires
-add-requires g c =
-    let light = held_small g.T.Weighted.holds c.args.records.now c.loop-record.record-index c.record-item.result c.share.result 100000000000
-    c.loop-record-test.true c.record-item.is c.share.ensures c.requires.small.1 in
-    record {
-      place = omega (arith, c.place.ensures.value, g.T.Placed.placing.below c.record-item.result);
-      fits = omega (arith, light, c.loop-record.invariant.0 c.place.result c.args.pool.number, c.requires.few);
-    }
 
 pub loop-record-preserved : goal.loop-record-preserved
 loop-record-preserved g c =

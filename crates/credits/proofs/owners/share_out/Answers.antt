@@ -44,11 +44,6 @@ returns-then-cents-gt0 c =
       same_parts = same_parts cents xs ys below whole only held;
     }
 
-pub returns-else-cents-gt0 : goal.returns-else-cents-gt0
-returns-else-cents-gt0 c =
-    record {
-      grown = λ most b i p. omega (arith, b i p);
-      booked = λ i p _ _ _. add_none (eqb p c.args.pool.number) (amount c.args.amounts.now.rows i p) _ (owned_nothing i _ _ c.args.cents (omega arith));
-      same_places = refl;
-      same_parts = refl;
-    }
+pub returns-else-cents-gt0-clause-booked : goal.returns-else-cents-gt0-clause-booked
+returns-else-cents-gt0-clause-booked c =
+    λ i p _ _ _. add_none (eqb p c.args.pool.number) (amount c.args.amounts.now.rows i p) _ (owned_nothing i _ _ c.args.cents (omega arith))

@@ -5,8 +5,6 @@ use Rattle.credits.specs.Resources.{resources_behind}
 use Rattle.credits.proofs.Days.{day_short, resources_more, resources_none}
 use Rattle.credits.proofs.resources.ResourceIterIterator.next.Goals as goal
 
-pub resource_at-requires : goal.resource_at-requires
-resource_at-requires c = omega (arith, c.loop-k-test.true, c.blocks-k-end.ensures, day_short c.args.self.now.day.now)
 
 pub loop-k-preserved : goal.loop-k-preserved
 loop-k-preserved c =
