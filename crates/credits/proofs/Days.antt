@@ -1,12 +1,13 @@
 -- A day's records from a block on, its participants, and its Resources, which keep their limits.
 use Rattle.std.proofs.Common.{◌≡◌, ℕ, zero, suc, ◌+◌, ◌<◌, ◌≤◌, Bool, true, false, cond, ltb, List, [], ◌∷◌, ◌++◌, map, length, get_or, take, drop, is_some, IfSome, Some, None, Option, sym, refl, ap, ◌∙◌, subst, add-zero, zero-add, one-add, arith}
+use Rattle.std.specs.Prelude.{MatchOption}
 use Rattle.std.specs.List.{flat_map, AllByRecursion}
 use Rattle.std.proofs.lemmas.List.{drop_more, drop_all, length-append, length-map}
 use Rattle.std.proofs.lemmas.Bool.{ltb-true, ltb-false, cond-true, lt-ltb}
 use Rattle.std.proofs.ByRecursion.{All-weaker}
 use Rattle.dayfile.specs.declared.block.Block.{Block}
 use Rattle.dayfile.specs.declared.block.Block.TheVariants.{Day as DayBlock, Participant as ParticipantBlock, Resource as ResourceBlock, RealTime as RealTimeBlock}
-use Rattle.dayfile.specs.Blocks.{shown}
+use Rattle.dayfile.specs.Blocks.{Shows, shown}
 use Rattle.dayfile.specs.declared.record.Record.{Record}
 use Rattle.dayfile.specs.declared.record.Record.TheVariants.{Day, Participant, Resource, RealTime}
 use Rattle.dayfile.specs.declared.record.DayRecord.{DayRecord}
@@ -70,7 +71,7 @@ module _ (f : List ℕ) (k : ℕ) where
       go false t = ap F (records_none (ltb-false k (blocks f) t))
 
   -- whether block k opens a Resource, by its parts
-  pub opens : (b : Block) → k < blocks f → shown b ≡ record_of (block f k) → is_some (resource_first k (drop k (records f))) ≡ of_resource b
+  opens : (b : Block) → k < blocks f → shown b ≡ record_of (block f k) → is_some (resource_first k (drop k (records f))) ≡ of_resource b
   opens b l e = ap (λ rs. is_some (resource_first k rs)) (records_more l ∙ ap (λ r. r ∷ drop (k + 1) (records f)) (sym e)) ∙ go b
     where
       go : (b : Block) → is_some (resource_first k (shown b ∷ drop (k + 1) (records f))) ≡ of_resource b
@@ -79,8 +80,15 @@ module _ (f : List ℕ) (k : ℕ) where
       go (ResourceBlock region run down number fees prices status owners cleared lmps flags) = refl
       go (RealTimeBlock number minimum hours events flags) = refl
 
-  pub opens_none : blocks f ≤ k → is_some (resource_first k (drop k (records f))) ≡ false
+  opens_none : blocks f ≤ k → is_some (resource_first k (drop k (records f))) ≡ false
   opens_none l = ap (λ rs. is_some (resource_first k rs)) (records_none l)
+
+  -- the same, by what is told of the block
+  pub opens_told : (Q : Block → Type 0) (r : Bool) → ((b : Block) → Q b → r ≡ of_resource b) → (o : Option Block)
+      → MatchOption o (blocks f ≤ k) (λ b. (k < blocks f) × Shows (block f k) b × (shown b ≡ record_of (block f k)))
+      → MatchOption o (r ≡ false) Q → r ≡ is_some (resource_first k (drop k (records f)))
+  opens_told Q r q None t e = e ∙ sym (opens_none t)
+  opens_told Q r q (Some b) t e = q b e ∙ sym (opens b t.0 t.2)
 
   -- the Resources from block k on: the one that it opens, if any, and those behind it
   pub resources_more : (o : Option ResourceDay) → k < blocks f → o ≡ resource_first k (drop k (records f))

@@ -23,20 +23,14 @@ fn real_time_at(day: &AdmittedDay<'_>, k: usize) -> Option<RealTimeRecord>
 fn is_resource(block: &Block<'_>) -> bool
     ensures { result ≡ of_resource block.now }
 {
-    match block {
-        Block::Resource { .. } => true,
-        Block::Day { .. } | Block::Participant { .. } | Block::RealTime { .. } => false,
-    }
+    matches!(block, Block::Resource { .. })
 }
 
 /// Whether block `k` opens a Resource. It is asked first, since most blocks do not, and no record is read in vain.
 fn opens_resource(day: &AdmittedDay<'_>, k: usize) -> bool
     ensures { result ≡ is_some (resource_first k (drop k (records day.now.file.now))) }
 {
-    match day.block(k) {
-        Some(block) => is_resource(&block),
-        None => false,
-    }
+    day.block(k).is_some_and(|block| is_resource(&block))
 }
 
 /// The Resource that block `k` opens, if it opens one.

@@ -1,11 +1,6 @@
-use Rattle.std.proofs.Common.{sym, ◌∙◌}
-use Rattle.credits.proofs.Days.{opens, opens_none}
+use Rattle.std.proofs.Common.{rules}
+use Rattle.credits.proofs.Days.{opens_told}
 use Rattle.credits.proofs.resources.opens_resource.Goals as goal
 
-pub returns-in-Some : goal.returns-in-Some
-returns-in-Some c =
-    let h = c.in-Some.ensures in
-    c.is_resource.ensures ∙ sym (opens c.args.day.now.file.now c.args.k _ h.0 h.2)
-
-pub returns-in-None : goal.returns-in-None
-returns-in-None c = sym (opens_none c.args.day.now.file.now c.args.k c.in-None.ensures)
+pub returns : goal.returns
+returns c = opens_told c.args.day.now.file.now c.args.k _ c.is_some_and.result (λ b q. search rules) c.block.result c.block.ensures c.is_some_and.ensures
