@@ -35,15 +35,6 @@ cells x h cents p q a e f n =
     let z = zero-add (cond (eqb n p) (get_or cents.day_ahead.cents h 0) 0) in
     cc
 
-pub add-requires : goal.add-requires
-add-requires c =
-    let p = c.pool.result in
-    omega (
-      arith,
-      none_at p.number p.from_one p.few c.none-row.result.cents c.none-row.ensures,
-      c.args.cents.now.day_ahead.small c.args.hour,
-    )
-
 pub add-requires-2 : goal.add-requires-2
 add-requires-2 c =
     let p = c.pool.result in

@@ -1,11 +1,8 @@
-use Rattle.std.proofs.Common.{sym, ap, inl, inr, arith}
-use Rattle.std.proofs.lemmas.Bool.{cases_eq}
+use Rattle.std.proofs.Common.{sym, ap, arith}
 use Rattle.dayfile.specs.Files.{answer as refused_by}
 use Rattle.credits.specs.Crediting.{column}
 use Rattle.credits.proofs.Costs.{costs_fit, first_dear}
 use Rattle.credits.proofs.crediting.check_costs.Goals as goal
-
-
 
 pub returns : goal.returns
 returns c = sym (ap refused_by (costs_fit (column c.args.amounts.now.rows) 21 (λ p l h. c.loop-pool.invariant p l (omega arith))))

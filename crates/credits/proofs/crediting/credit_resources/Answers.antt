@@ -17,7 +17,6 @@ loop-unit-init c =
     ∙ ap (λ b. resources_behind b s.day.now.file.now) c.resources-unit-items.ensures.0 ∙ ap (λ (d : AdmittedDay). resources_behind 0 d.file.now) c.resources-unit-items.ensures.1 in
     subst (λ xs. CreditedTo f xs c.args.amounts.now.rows) (sym all) (credited_none f c.args.amounts.now.rows (day_resources c.args.day.now) c.requires)
 
-
 pub loop-unit-preserved : goal.loop-unit-preserved
 loop-unit-preserved c =
     let f = c.args.day.now.file.now in
@@ -39,10 +38,9 @@ returns-in_err-credit_resource c =
       credited = MatchResult-from_err _ _ _ c.from_residual.ensures.0 (λ _. tt);
     }
 
-pub returns : goal.returns
-returns c =
+pub returns-clause-answer : goal.returns-clause-answer
+returns-clause-answer c =
     let f = c.args.day.now.file.now in
     let rows = c.loop-unit.amounts.rows in
     let before = subst (λ xs. CreditedTo f xs rows) c.in-None.ensures.steps.0 c.loop-unit.invariant in
-    let done = credited_all f rows before in
-    record { answer = sym (ap refused_by done.0); below = λ i p. omega (arith, c.loop-unit.invariant.below i p); credited = done.1 }
+    sym (ap refused_by (credited_all f rows before).0)

@@ -1,13 +1,10 @@
 use Rattle.std.proofs.Common.{◌+◌, cond, eqb, take, ap, ◌∙◌, arith}
 use Rattle.std.proofs.lemmas.List.{take_all}
-use Rattle.std.proofs.lemmas.Bool.Decides.{nat_tests}
 use Rattle.credits.specs.Grids.{amount}
 use Rattle.credits.specs.Owning.{booked}
 use Rattle.credits.proofs.Rows.{below_from}
 use Rattle.credits.proofs.Sharing.{held_small, booked_more, add_again, add_few}
 use Rattle.credits.proofs.owners.book.Goals as goal
-
-
 
 pub loop-record-preserved : goal.loop-record-preserved
 loop-record-preserved g c =

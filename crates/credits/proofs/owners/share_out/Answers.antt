@@ -1,21 +1,17 @@
-use Rattle.std.proofs.Common.{◌≡◌, ℕ, ◌+◌, ◌<◌, ◌≤◌, true, cond, eqb, map, Some, None, refl, ap, ◌∙◌, arith}
+use Rattle.std.proofs.Common.{◌≡◌, ℕ, ◌+◌, ◌<◌, ◌≤◌, true, cond, eqb, map, Some, None, ap, ◌∙◌, arith}
 use Rattle.credits.specs.Grids.{amount}
 use Rattle.credits.specs.Owning.{owned_cents}
 use Rattle.credits.proofs.Rows.{below_from}
 use Rattle.credits.proofs.Sharing.{parts_divide, owned_within, owned_nothing, add_few, add_none, same_places, same_parts, booked_owned, held_within}
 use Rattle.credits.proofs.owners.share_out.Goals as goal
 
-pub book-requires : goal.book-requires
-book-requires c =
-    let d = c.divide.ensures.answer ∙ ap (λ b. cond b None (Some tt)) (parts_divide (λ o. o.parts) c.args.cents c.args.owners.now c.requires.owners.1.1) in
-    record {
-      few = omega (arith, c.divide.auto.records, c.requires.owners);
-      small = (
-        λ i p. omega (arith, c.requires.small.0 i p),
-        held_within c.args.cents c.args.owners.now c.divide.new.records c.requires.owners.1.0 c.requires.owners.1.1
-            (c.divide.ensures.only d) (c.divide.ensures.shares d) 100000000000 c.requires.small.1,
-      );
-    }
+pub book-requires-clause-small : goal.book-requires-clause-small
+book-requires-clause-small c =
+    let d = c.divide.ensures.answer ∙ ap (λ b. cond b None (Some tt)) (parts_divide (λ o. o.parts) c.args.cents c.args.owners.now c.requires.owners.1.1) in (
+      λ i p. omega (arith, c.requires.small.0 i p),
+      held_within c.args.cents c.args.owners.now c.divide.new.records c.requires.owners.1.0 c.requires.owners.1.1
+          (c.divide.ensures.only d) (c.divide.ensures.shares d) 100000000000 c.requires.small.1,
+    )
 
 pub returns-then-cents-gt0 : goal.returns-then-cents-gt0
 returns-then-cents-gt0 c =

@@ -2,9 +2,8 @@ use Rattle.std.proofs.Common.{◌≡◌, ◌+◌, ◌<◌, ◌≤◌, ◌∷◌,
 use Rattle.dayfile.specs.Files.{blocks}
 use Rattle.credits.specs.declared.resources.ResourceIter.{ResourceIter}
 use Rattle.credits.specs.Resources.{resources_behind}
-use Rattle.credits.proofs.Days.{day_short, resources_more, resources_none}
+use Rattle.credits.proofs.Days.{resources_more, resources_none}
 use Rattle.credits.proofs.resources.ResourceIterIterator.next.Goals as goal
-
 
 pub loop-k-preserved : goal.loop-k-preserved
 loop-k-preserved c =
