@@ -1,4 +1,3 @@
-mod Cuts
 mod Follows
 mod Sums
 mod Standing
