@@ -62,19 +62,9 @@ fn answer_block(block: &[u8]) -> Result<Answer, Fault> {
     let mut digest = Digest::default();
     digest.add(&record);
     Ok(Answer::Shows {
-        kind: letter_of(&record),
+        kind: char::from(record.kind().letter()),
         digest: digest.value,
     })
-}
-
-/// The letter with which a record's block begins.
-fn letter_of(record: &Record) -> char {
-    match record {
-        Record::Day(_) => 'D',
-        Record::Participant(_) => 'P',
-        Record::Resource(_) => 'G',
-        Record::RealTime(_) => 'R',
-    }
 }
 
 /// Writes a record into so much room; written, it fills the first block of it.

@@ -1,8 +1,8 @@
 //! The values of a record, four bytes each, in the order of the format.
 use crate::reader::{BadBook, Reader};
 use dayfile::{
-    DayRecord, Event, Flag, Load, Owner, ParticipantRecord, RealTimeHour, RealTimeRecord, Record,
-    ResourceRecord, UnknownNumber,
+    DayRecord, Event, Flag, Kind, Load, Owner, ParticipantRecord, RealTimeHour, RealTimeRecord,
+    Record, ResourceRecord, UnknownNumber,
 };
 
 /// What is read from values of four bytes each.
@@ -10,15 +10,14 @@ pub trait Value: Sized {
     fn read(book: &mut Reader<'_>) -> Result<Self, BadBook>;
 }
 
-/// The values of a record of a kind.
-pub fn read_record(book: &mut Reader<'_>, kind: u8) -> Result<Record, BadBook> {
-    match kind {
-        b'D' => Ok(Record::Day(DayRecord::read(book)?)),
-        b'P' => Ok(Record::Participant(ParticipantRecord::read(book)?)),
-        b'G' => Ok(Record::Resource(ResourceRecord::read(book)?)),
-        b'R' => Ok(Record::RealTime(RealTimeRecord::read(book)?)),
-        _ => Err(BadBook::Kind(kind)),
-    }
+/// The values of a record of a kind, which is told by its letter.
+pub fn read_record(book: &mut Reader<'_>, letter: u8) -> Result<Record, BadBook> {
+    Ok(match Kind::of(letter).ok_or(BadBook::Kind(letter))? {
+        Kind::Day => Record::Day(Value::read(book)?),
+        Kind::Participant => Record::Participant(Value::read(book)?),
+        Kind::Resource => Record::Resource(Value::read(book)?),
+        Kind::RealTime => Record::RealTime(Value::read(book)?),
+    })
 }
 
 impl Value for DayRecord {

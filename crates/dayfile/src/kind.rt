@@ -7,8 +7,8 @@ ghost use Rattle.dayfile.specs.Records.{kind_of};
 use crate::record::Record;
 
 /// A kind of block; a block begins with its letter.
-#[derive(Clone, Copy, PartialEq, Eq)]
-pub(crate) enum Kind {
+#[derive(Clone, Copy, Debug, PartialEq, Eq)]
+pub enum Kind {
     /// D.
     Day,
     /// P.
@@ -21,7 +21,7 @@ pub(crate) enum Kind {
 
 impl Kind {
     /// The kind that a byte is the letter of.
-    pub(crate) fn of(byte: u8) -> Option<Kind>
+    pub fn of(byte: u8) -> Option<Kind>
         ensures { MatchOption result (known byte ≡ false) (λ kind. letter kind ≡ byte) }
     {
         match byte {
@@ -32,11 +32,23 @@ impl Kind {
             _ => None,
         }
     }
+
+    /// Its letter.
+    pub fn letter(self) -> u8
+        ensures { result ≡ letter self }
+    {
+        match self {
+            Kind::Day => b'D',
+            Kind::Participant => b'P',
+            Kind::Resource => b'G',
+            Kind::RealTime => b'R',
+        }
+    }
 }
 
 impl Record {
     /// The kind of its block.
-    pub(crate) fn kind(&self) -> Kind
+    pub fn kind(&self) -> Kind
         ensures { letter result ≡ kind_of self.now }
     {
         match self {

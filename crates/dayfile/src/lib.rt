@@ -25,6 +25,7 @@ pub use bytes::{byte_at, half_at, word_at};
 pub use day::AdmittedDay;
 pub use fault::{Fault, Layer, Place};
 pub use file::{BLOCK, LONGEST, admit, read_block};
+pub use kind::Kind;
 pub use layout::check_of;
 pub use record::{
     DayRecord, Event, Flag, Load, Owner, ParticipantRecord, RealTimeHour, RealTimeRecord, Record,

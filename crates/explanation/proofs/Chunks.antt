@@ -1,5 +1,5 @@
 -- The chunks of a file are its blocks: the one at a place, how many of them begin with a letter, and the last that does.
-use Rattle.std.proofs.Common.{◌≡◌, ℕ, zero, suc, ◌+◌, ◌-◌, ◌*◌, ◌/◌, ◌<◌, ◌≤◌, min, Bool, true, false, cond, eqb, List, [], ◌∷◌, ◌++◌, length, get_or, take, drop, filter, Some, None, Option, unwrap_or, IfSome, MatchOption, Bor, sym, refl, ap, ◌∙◌, subst, inl, inr, add-one, arith}
+use Rattle.std.proofs.Common.{◌≡◌, ℕ, zero, suc, ◌+◌, ◌-◌, ◌*◌, ◌/◌, ◌<◌, ◌≤◌, min, Bool, true, false, cond, eqb, List, [], ◌∷◌, ◌++◌, length, get_or, take, drop, filter, Some, None, Option, unwrap_or, IfSome, MatchOption, Bor, sym, refl, ap, ◌∙◌, subst, inl, inr, add-one, lit<, arith}
 use Rattle.std.specs.List.{IsSubsliceAt, last_or}
 use Rattle.std.specs.Option.{option_map}
 use Rattle.std.specs.Iterator.Runs.{Run, IsChunksRun}
@@ -8,8 +8,11 @@ use Rattle.std.proofs.lemmas.List.{take_all, append-nil, nil_from_length}
 use Rattle.std.proofs.lemmas.List.Elements.{filter_more}
 use Rattle.std.proofs.lemmas.List.Filters.{length-filter_more}
 use Rattle.std.proofs.lemmas.Option.{none-some, same_Some}
+use Rattle.dayfile.specs.declared.kind.Kind.{Kind}
+use Rattle.dayfile.specs.declared.kind.Kind.TheVariants.{Day, Participant, Resource, RealTime}
 use Rattle.dayfile.specs.Bytes.{value}
 use Rattle.dayfile.specs.Files.{block, kind, number_in, tally, latest}
+use Rattle.dayfile.specs.Kinds.{letter}
 use Rattle.explanation.proofs.Standing.{block_past, tally_past, latest_past}
 
 -- a run over the chunks of a file
@@ -59,6 +62,13 @@ run_is r f runs i d l = go (r.at i) (r.reads i d (omega (arith, r.long, l))) (ru
     go (Some x) e h =
         let m : i * 512 ≡ 512 * i = omega arith in
         ap (λ b. b.now) (sym (same_Some x (get_or r.items i d) e)) ∙ h.2.0 ∙ ap (λ j. take 512 (drop j f)) m
+
+-- no kind's letter is the byte 0
+pub letter_above : (k : Kind) → 0 < letter k
+letter_above Day = lit< tt
+letter_above Participant = lit< tt
+letter_above Resource = lit< tt
+letter_above RealTime = lit< tt
 
 -- whether a chunk begins with a letter, and the number in one
 abbrev pub begins : ℕ → Bor (List ℕ) → Bool

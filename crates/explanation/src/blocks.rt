@@ -1,9 +1,10 @@
 //! The blocks of a file, and what stands before one of them.
-ghost use Rattle.std.specs.Prelude.{◌≡◌, ◌<◌};
+ghost use Rattle.std.specs.Prelude.{◌≡◌};
 ghost use Rattle.std.specs.Option.{unwrap_or};
 ghost use Rattle.dayfile.specs.Files.{block, kind, kind_before, number_before, tally, latest};
+ghost use Rattle.dayfile.specs.Kinds.{letter};
 
-use dayfile::{BLOCK, byte_at, word_at};
+use dayfile::{BLOCK, Kind, byte_at, word_at};
 
 /// The bytes of block `k`: fewer than a block has, or none, where the file ends before.
 pub(crate) fn block_at(file: &[u8], k: usize) -> &[u8]
@@ -34,25 +35,23 @@ pub(crate) fn number_before(file: &[u8], k: usize) -> u32
         .map_or(0, |last| word_at(block_at(file, last), 4))
 }
 
-/// How many of the blocks before block `k` begin with a letter.
-pub(crate) fn count_before(file: &[u8], k: usize, letter: u8) -> usize
-    requires { 0 < letter }
-    ensures { result ≡ tally letter file.now k }
+/// How many of the blocks before block `k` are of a kind.
+pub(crate) fn count_before(file: &[u8], k: usize, kind: Kind) -> usize
+    ensures { result ≡ tally (letter kind) file.now k }
 {
     file.chunks(BLOCK)
         .take(k)
-        .filter(|block| byte_at(block, 0) == letter)
+        .filter(|block| byte_at(block, 0) == kind.letter())
         .count()
 }
 
-/// The number in the last block before block `k` that begins with a letter, or 0.
-pub(crate) fn last_before(file: &[u8], k: usize, letter: u8) -> u32
-    requires { 0 < letter }
-    ensures { result ≡ unwrap_or (latest letter file.now k) 0 }
+/// The number in the last block of a kind before block `k`, or 0.
+pub(crate) fn last_before(file: &[u8], k: usize, kind: Kind) -> u32
+    ensures { result ≡ unwrap_or (latest (letter kind) file.now k) 0 }
 {
     file.chunks(BLOCK)
         .take(k)
-        .filter(|block| byte_at(block, 0) == letter)
+        .filter(|block| byte_at(block, 0) == kind.letter())
         .last()
         .map_or(0, |block| word_at(block, 4))
 }

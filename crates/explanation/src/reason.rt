@@ -10,7 +10,7 @@ use crate::bytes::check_of;
 use crate::finding::{Count, FieldName, Finding};
 use crate::owners::{broken_rule, owners_of};
 use crate::table::{row_at, rows_for};
-use dayfile::{BLOCK, Fault, byte_at, word_at};
+use dayfile::{BLOCK, Fault, Kind, byte_at, word_at};
 
 /// What breaks the rule of a refusal, found in the bytes of the file.
 /// A refusal of another layer, or one that does not fit the bytes, is told as `Other`, or by what stands at its place.
@@ -40,7 +40,7 @@ fn find(fault: Fault, file: &[u8]) -> Finding
         Fault::Rising { block } => explain_rising(file, block),
         Fault::Owners { block } => explain_owners(
             block_at(file, block),
-            count_before(file, block, b'P'),
+            count_before(file, block, Kind::Participant),
         ),
         Fault::Counts => explain_counts(file),
         _ => Finding::Other,
@@ -69,7 +69,7 @@ fn explain_field(block: &[u8], before: u32, byte: usize) -> Finding
     ensures { result ≡ field_finding before byte block.now }
 {
     let number = word_at(block, 4);
-    if byte_at(block, 0) == b'R' && byte == 4 && number != before {
+    if byte_at(block, 0) == Kind::RealTime.letter() && byte == 4 && number != before {
         return Finding::NumberOfResource {
             found: number,
             expected: before,
@@ -85,15 +85,14 @@ fn explain_field(block: &[u8], before: u32, byte: usize) -> Finding
 fn explain_rising(file: &[u8], k: usize) -> Finding
     ensures { result ≡ rising_finding k file.now }
 {
-    let (letter, name) = if kind_at(file, k) == b'P' {
-        (b'P', FieldName::Participant)
-    } else {
-        (b'G', FieldName::Resource)
+    let (kind, name) = match Kind::of(kind_at(file, k)) {
+        Some(Kind::Participant) => (Kind::Participant, FieldName::Participant),
+        _ => (Kind::Resource, FieldName::Resource),
     };
     Finding::Rising {
         name,
         found: word_at(block_at(file, k), 4),
-        last: last_before(file, k, letter),
+        last: last_before(file, k, kind),
     }
 }
 
@@ -117,11 +116,11 @@ fn explain_counts(file: &[u8]) -> Finding
     Finding::Counts {
         participants: Count {
             said: byte_at(file, 10),
-            read: count_before(file, blocks, b'P'),
+            read: count_before(file, blocks, Kind::Participant),
         },
         resources: Count {
             said: byte_at(file, 11),
-            read: count_before(file, blocks, b'G'),
+            read: count_before(file, blocks, Kind::Resource),
         },
     }
 }

@@ -5,6 +5,7 @@ ghost use Rattle.explanation.specs.Findings.{told};
 
 use crate::bytes::number_at;
 use crate::finding::{FieldName, Finding, NamedField};
+use dayfile::Kind;
 
 /// What a field may hold. The rows have names, which the tables that judge a block have not.
 #[derive(Clone, Copy)]
@@ -430,15 +431,15 @@ static REAL_TIME: [Row; 9] = [
 ];
 
 /// The fields of a block that begins with a letter: D, P, G, and R otherwise.
-pub(crate) fn rows_for(kind: u8) -> &'static [Row]
-    ensures rows { result.now ≡ rows_for kind }
+pub(crate) fn rows_for(letter: u8) -> &'static [Row]
+    ensures rows { result.now ≡ rows_for letter }
     ensures steady { all_steady result.now ≡ true }
 {
-    match kind {
-        b'D' => &DAY,
-        b'P' => &PARTICIPANT,
-        b'G' => &RESOURCE,
-        _ => &REAL_TIME,
+    match Kind::of(letter) {
+        Some(Kind::Day) => &DAY,
+        Some(Kind::Participant) => &PARTICIPANT,
+        Some(Kind::Resource) => &RESOURCE,
+        Some(Kind::RealTime) | None => &REAL_TIME,
     }
 }
 

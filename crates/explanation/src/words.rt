@@ -3,7 +3,7 @@ ghost use Rattle.std.specs.Prelude.{Some};
 ghost use Rattle.explanation.specs.Texts.{field_text};
 
 use crate::finding::{Count, FieldName, Finding, NamedField, OwnersRule};
-use dayfile::{BLOCK, LONGEST};
+use dayfile::{BLOCK, Kind, LONGEST};
 use std::fmt;
 
 /// One sentence: the field or rule, what was found, and what is allowed.
@@ -99,10 +99,10 @@ fn write_kind<W: fmt::Write>(
 
 /// The kinds that may stand right behind another.
 fn allowed_behind(before: u8) -> &'static str {
-    match before {
-        b'D' | b'P' => "P or G",
-        b'G' => "G or R",
-        _ => "G",
+    match Kind::of(before) {
+        Some(Kind::Day | Kind::Participant) => "P or G",
+        Some(Kind::Resource) => "G or R",
+        Some(Kind::RealTime) | None => "G",
     }
 }
 

@@ -1,6 +1,7 @@
 use Rattle.std.proofs.Common.{◌≡◌, None, unwrap_or, sym, ap, ◌∙◌, filter, arith, rules}
 use Rattle.std.specs.List.{last_or}
-use Rattle.explanation.proofs.Chunks.{chunks_of, begins, number, last_of, latest_of}
+use Rattle.dayfile.specs.Kinds.{letter}
+use Rattle.explanation.proofs.Chunks.{letter_above, chunks_of, begins, number, last_of, latest_of}
 use Rattle.explanation.proofs.blocks.last_before.Goals as goal
 
 pub returns : goal.returns
@@ -12,9 +13,9 @@ returns c =
     let s = ap (λ x. x.size) r.1 ∙ c.chunks.ensures.size in
     let u = ap (λ x. x.rest.now) r.1 ∙ c.chunks.ensures.rest in
     let w = chunks_of r.0 r.0.from.size r.0.from.rest.now c.args.file.now s u (c.chunks.ensures.runs r.0 r.0.seen (omega (arith, s))) in
-    let e = q.2.4 (begins c.args.letter) (λ x b f' k. (search rules, search rules)) in
+    let e = q.2.4 (begins (letter c.args.kind)) (λ x b f' k. (search rules, search rules)) in
     let m : c.map_or.result ≡ unwrap_or (number c.last.result) 0 = search rules in
     m ∙ ap (λ o. unwrap_or (number o) 0) (last_of p.0 c.last.result p.3)
-    ∙ ap (λ xs. unwrap_or (number (last_or None xs)) 0) (e ∙ ap (filter (begins c.args.letter)) (sym r.2.0.1))
+    ∙ ap (λ xs. unwrap_or (number (last_or None xs)) 0) (e ∙ ap (filter (begins (letter c.args.kind))) (sym r.2.0.1))
     ∙ ap (λ o. unwrap_or o 0)
-    (latest_of r.0 c.args.file.now c.args.letter c.args.k c.args.file c.requires w (omega (arith, t.0, r.2.0.0)) (λ l. r.2.1 (q.2.0 ∙ p.2) (omega (arith, l, r.2.0.0))))
+    (latest_of r.0 c.args.file.now (letter c.args.kind) c.args.k c.args.file (letter_above c.args.kind) w (omega (arith, t.0, r.2.0.0)) (λ l. r.2.1 (q.2.0 ∙ p.2) (omega (arith, l, r.2.0.0))))
