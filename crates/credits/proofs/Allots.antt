@@ -1,10 +1,9 @@
 -- Hours that share a credit: what they weigh, and what each gets.
-use Rattle.std.proofs.Common.{◌≡◌, ℕ, zero, suc, ◌+◌, ◌*◌, ◌^◌, ◌<◌, ◌≤◌, Bool, true, false, cond, eqb, ltb, List, [], ◌∷◌, ◌++◌, map, length, take, drop, Some, None, Option, is_some, unwrap_or, option_map, ℤ, sum_by, sum, count_by, sym, refl, ap, ◌∙◌, subst, arith}
+use Rattle.std.proofs.Common.{◌≡◌, ℕ, zero, suc, ◌+◌, ◌*◌, ◌^◌, ◌<◌, ◌≤◌, Bool, true, false, cond, eqb, ltb, List, [], ◌∷◌, map, length, Some, None, Option, is_some, unwrap_or, option_map, ℤ, sum_by, sum, count_by, sym, refl, ap, ◌∙◌, subst, arith}
 use mathlib.Core.Path.{fun_ext}
 use Rattle.std.specs.Bool.{then_some}
 use Rattle.std.specs.List.{AllByRecursion, range_with_len}
 use Rattle.std.proofs.lemmas.Bool.{and_right}
-use Rattle.std.proofs.lemmas.List.{take_all, drop_all, append-nil}
 use Rattle.std.proofs.lemmas.List.Sums.{sum_by-cons, sum-map, get_or-le-sum_by}
 use Rattle.std.proofs.lemmas.List.FromFn.{length-map-range_with_len, get_or-map-range_with_len}
 use Rattle.std.proofs.ByRecursion.{All-from_get_or}
@@ -17,11 +16,6 @@ use Rattle.credits.specs.Weighing.{cut}
 -- an hour that does not share: what a read past the end would give
 abbrev pub no_share : HourShare
 no_share = record { kwh = None; cents = 0 }
-
--- a loop that levels each hour in place has levelled all
-pub levelled_all : (xs ys : List HourShare) (i : ℕ) → length xs ≤ i → ys ≡ map level (take i xs) ++ drop i xs → ys ≡ map level xs
-levelled_all xs ys i l e =
-    e ∙ ap (λ ws. map level (take i xs) ++ ws) (drop_all i xs l) ∙ append-nil (map level (take i xs)) ∙ ap (map level) (take_all i xs l)
 
 sum_by_map : {X Y : Type 0} (f : Y → ℕ) (g : X → Y) (xs : List X) → sum_by f (map g xs) ≡ sum_by (λ x. f (g x)) xs
 sum_by_map f g [] = refl

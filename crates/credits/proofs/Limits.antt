@@ -1,10 +1,10 @@
 -- The limits of an hour, from those of its record.
-use Rattle.std.proofs.Common.{ℕ, ◌<◌, ◌≤◌, List, get_or, pos, arith}
+use Rattle.std.proofs.Common.{ℕ, ◌<◌, ◌≤◌, List, get_or, arith}
 use Rattle.std.proofs.ByRecursion.{All-get_or}
 use Rattle.dayfile.specs.declared.record.ResourceRecord.{ResourceRecord}
 use Rattle.dayfile.specs.declared.record.RealTimeRecord.{RealTimeRecord}
-use Rattle.dayfile.specs.Keeping.{Price, Energy, Row, HourKept, ResourceKept, RealTimeKept}
-use Rattle.credits.specs.DayAhead.{price, cleared, day_ahead_lmp}
+use Rattle.dayfile.specs.Keeping.{Energy, Row, HourKept, ResourceKept, RealTimeKept}
+use Rattle.credits.specs.DayAhead.{cleared}
 use Rattle.credits.specs.RealTime.{figures, no_hour}
 
 -- what holds of each of a row of 24 holds of the one at an hour
@@ -12,12 +12,6 @@ pub row_at : {A : Type 0} (P : A → Type 0) (xs : List A) (d : A) (h : ℕ) →
 row_at P xs d h row l = All-get_or P xs h d (omega (arith, row.0)) row.1
 
 module _ {limit : ℕ} {g : ResourceRecord} (k : ResourceKept limit g) (h : ℕ) (l : h < 24) where
-  pub price_kept : Price (price g h)
-  price_kept = row_at Price g.prices (pos 0) h k.prices l
-
-  pub day_ahead_lmp_kept : Price (day_ahead_lmp g h)
-  day_ahead_lmp_kept = row_at Price g.lmps (pos 0) h k.lmps l
-
   pub cleared_kept : cleared g h ≤ 2000000
   cleared_kept = row_at Energy g.cleared_kwh 0 h k.cleared l
 

@@ -1,5 +1,5 @@
 -- Signed numbers within limits, their products and sums.
-use Rattle.std.proofs.Common.{◌≡◌, ℕ, suc, ◌+◌, ◌*◌, ◌≤◌, ℤ, pos, negsuc, ◌+ℤ◌, ◌*ℤ◌, neg_ℤ, ◌≤ℤ◌, refl, mul-le-mul, add-one, arith, w64, SFits, to_z, of_z}
+use Rattle.std.proofs.Common.{◌≡◌, ℕ, suc, ◌+◌, ◌*◌, ◌≤◌, ℤ, pos, negsuc, ◌+ℤ◌, ◌*ℤ◌, neg_ℤ, ◌≤ℤ◌, refl, mul-le-mul, add-one, arith, w64, to_z, of_z}
 use Rattle.std.proofs.lemmas.Int.{ints}
 use Rattle.credits.specs.Sums.{net}
 
@@ -19,9 +19,6 @@ within_product a b (negsuc m) (negsuc n) p q =
 
 -- a running sum, and one more, as the code adds it
 module _ (k m : ℕ) (s x : ℤ) (room : k + m ≤ 1000000000000000000) (near_s : Within k s) (near_x : Within m x) where
-  pub running_fits : SFits w64 (s +ℤ to_z w64 (of_z w64 x))
-  running_fits = omega (arith, ints)
-
   pub running_back : to_z w64 (of_z w64 (s +ℤ to_z w64 (of_z w64 x))) ≡ s +ℤ x
   running_back = omega (arith, ints)
 

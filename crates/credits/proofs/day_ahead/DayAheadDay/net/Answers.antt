@@ -1,13 +1,9 @@
-use Rattle.std.proofs.Common.{◌≡◌, ◌*◌, ◌+ℤ◌, sym, ap, ◌∙◌, arith}
+use Rattle.std.proofs.Common.{◌*◌, ◌+ℤ◌, sym, ap, ◌∙◌, arith}
 use Rattle.std.proofs.lemmas.Int.{ints}
 use Rattle.credits.specs.Sums.{net}
 use Rattle.credits.specs.DayAhead.{day_ahead_hour}
-use Rattle.credits.proofs.Worths.{running_fits, running_back, running_within, net_none, net_more}
+use Rattle.credits.proofs.Worths.{running_back, running_within, net_none, net_more}
 use Rattle.credits.proofs.day_ahead.DayAheadDay.net.Goals as goal
-
-pub overflow_add-sum : goal.overflow_add-sum
-overflow_add-sum c =
-    running_fits (1000000000000 * c.loop-hour.hour) 1000000000000 _ c.amount-sum.result (omega arith) c.loop-hour.invariant.1 c.amount-sum.ensures.small
 
 pub loop-hour-init : goal.loop-hour-init
 loop-hour-init c = (net_none (day_ahead_hour c.args.self.now.resource.now), (omega (arith, ints), omega (arith, ints)))
@@ -22,8 +18,3 @@ loop-hour-preserved c =
           ∙ ap (λ z. z +ℤ x) c.loop-hour.invariant.0 ∙ ap (λ z. net f h +ℤ z) c.amount-sum.ensures.value ∙ sym (net_more f h),
       (omega (arith, ints), omega (arith, ints)),
     )
-
-pub returns : goal.returns
-returns c =
-    let e : c.loop-hour.hour ≡ 24 = omega arith in
-    record { value = c.loop-hour.invariant.0 ∙ ap (net (day_ahead_hour c.args.self.now.resource.now)) e; small = omega (arith, ints, c.loop-hour.invariant.1) }

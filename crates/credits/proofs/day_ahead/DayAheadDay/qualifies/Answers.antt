@@ -1,6 +1,6 @@
-use Rattle.std.proofs.Common.{◌≡◌, true, false, sym, ap, ◌∙◌, arith}
+use Rattle.std.proofs.Common.{◌≡◌, true, false, sym, ◌∙◌, arith}
 use Rattle.std.proofs.lemmas.Bool.{not_from_true, not_from_false}
-use Rattle.credits.specs.DayAhead.{self_scheduled, not_self_scheduled, qualifies}
+use Rattle.credits.specs.DayAhead.{self_scheduled, not_self_scheduled}
 use Rattle.credits.proofs.Streaks.{streak_none, streak_yes, streak_no, streak_within}
 use Rattle.credits.proofs.Blocks.{qualifies_none, qualifies_more, short_where_scheduled, short_where_unscheduled, not_qualified, by_blocks}
 use Rattle.credits.proofs.day_ahead.DayAheadDay.qualifies.Goals as goal
@@ -64,8 +64,5 @@ loop-hour-preserved c =
           )
     ]
 
-pub returns : goal.returns
-returns c =
-    let g = c.args.self.now.resource.now in
-    let e : c.loop-hour.hour ≡ 24 = omega arith in
-    record { value = sym c.loop-hour.invariant.2 ∙ ap (qualifies g) e; blocks = by_blocks g }
+pub returns-clause-blocks : goal.returns-clause-blocks
+returns-clause-blocks c = by_blocks c.args.self.now.resource.now

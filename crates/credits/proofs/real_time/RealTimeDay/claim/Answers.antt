@@ -12,7 +12,7 @@ use Rattle.credits.specs.RealTime.{forbidden_hour, eligible, figures, real_time_
 use Rattle.credits.specs.Walks.{Stands}
 use Rattle.credits.proofs.Allots.{no_share, few_shared, all_light}
 use Rattle.credits.proofs.Limits.{figures_kept}
-use Rattle.credits.proofs.Passing.{stands_first, none_forbidden_yet, allowed_next, forbidden_here, forbidden_stays, light_more, closing_small, day_summed}
+use Rattle.credits.proofs.Passing.{stands_first, none_forbidden_yet, allowed_next, forbidden_here, forbidden_stays, closing_small, day_summed}
 use Rattle.credits.proofs.real_time.RealTimeDay.claim.Goals as goal
 
 pub loop-hour-init : goal.loop-hour-init
@@ -46,14 +46,6 @@ loop-hour-preserved c =
       λ k l. ap (λ x. get_or (set hours h x) k no_share) p.0
           ∙ fill_by_more (real_time_share g r) hours h no_share (omega (arith, c.loop-hour.invariant.2)) c.loop-hour.invariant.3 k l,
     )
-
-pub credit-requires : goal.credit-requires
-credit-requires c =
-    let st = c.loop-hour.invariant.0 in
-    let e : c.loop-hour.hour ≤ 24 = omega arith in
-    let lo = c.loop-hour.invariant.0.above in
-    let hi = c.loop-hour.invariant.0.below in
-    (light_more (255 + c.loop-hour.hour) 1000 c.loop-hour.walk.commitment (omega arith) st.light, (omega (arith, st.few), (omega (arith, ints), omega (arith, ints))))
 
 -- the whole day passed
 stands : (c : goal.After-credit) → Stands c.args.self.now.resource.now c.args.self.now.real_time.now 24 c.loop-hour.walk

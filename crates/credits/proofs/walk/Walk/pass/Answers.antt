@@ -7,11 +7,8 @@ use Rattle.credits.specs.declared.walk.Walk.{Walk}
 use Rattle.credits.specs.Commitments.{moved, in_period}
 use Rattle.credits.specs.RealTime.{event, figures, opening_fee, real_time_hour}
 use Rattle.credits.specs.Walks.{Stands}
-use Rattle.credits.proofs.Passing.{advances_none, advances_some, stopped_here, refused_with, eligible_here, stands_next, light_more, same_walk}
+use Rattle.credits.proofs.Passing.{advances_none, advances_some, stopped_here, refused_with, eligible_here, stands_next, same_walk}
 use Rattle.credits.proofs.walk.Walk.pass.Goals as goal
-
-pub advance-requires : goal.advance-requires
-advance-requires c = (light_more (255 + c.args.hour) 1000 c.args.self.now.commitment (omega (arith, c.requires.hour)) c.requires.so_far.light, omega (arith, c.requires.so_far.few, c.requires.hour))
 
 pub returns-in_err-ok_or : goal.returns-in_err-ok_or
 returns-in_err-ok_or c =
