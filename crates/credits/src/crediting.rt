@@ -46,6 +46,7 @@ fn credit_hours(unit: &ResourceDay, cents: &HourlyCents, amounts: &mut Table)
     // slots that are not in use own nothing
     let mut slots = unit.resource.owners.map(OwnerShare::from);
     let owners = &mut slots[..unit.resource.owner_count as usize];
+    // by the hour's number, since each market's pool goes by it too
     for hour in 0..24 {
         share_out(
             cents.day_ahead.cents[hour],
