@@ -9,6 +9,7 @@ ghost use Rattle.dayfile.specs.Files.{answer, lone_fault};
 use crate::bytes::{Part, write_parts};
 use crate::fault::Fault;
 use crate::file::BLOCK;
+use crate::kind::Kind;
 use crate::layout::{check_of, field_fault, table_for};
 use crate::owners::{PLACES, kept};
 use crate::record::{DayRecord, ParticipantRecord, RealTimeRecord, Record, ResourceRecord};
@@ -87,7 +88,7 @@ impl DayRecord {
         ensures bytes { block.new ≡ day_body self.now ++ zeros 4 }
         ensures fits { Fitting (Day self.now) }
     {
-        block[0] = b'D';
+        block[0] = Kind::Day.letter();
         self.date.write(block, 4);
         self.version.write(block, 8);
         self.participants.write(block, 10);
@@ -103,7 +104,7 @@ impl ParticipantRecord {
         ensures bytes { block.new ≡ participant_body self.now ++ zeros 4 }
         ensures fits { Fitting (Participant self.now) }
     {
-        block[0] = b'P';
+        block[0] = Kind::Participant.letter();
         self.number.write(block, 4);
         write_parts(&self.loads, block, 8);
         self.network_load.write(block, 104);
@@ -118,7 +119,7 @@ impl ResourceRecord {
         ensures bytes { block.new ≡ resource_body self.now ++ zeros 4 }
         ensures fits { Fitting (Resource self.now) }
     {
-        block[0] = b'G';
+        block[0] = Kind::Resource.letter();
         self.region.write(block, 1);
         self.minimum_run_hours.write(block, 2);
         self.minimum_down_hours.write(block, 3);
@@ -143,7 +144,7 @@ impl RealTimeRecord {
         ensures bytes { block.new ≡ real_time_body self.now ++ zeros 4 }
         ensures fits { Fitting (RealTime self.now) }
     {
-        block[0] = b'R';
+        block[0] = Kind::RealTime.letter();
         self.number.write(block, 4);
         self.economic_minimum_kwh.write(block, 8);
         write_parts(&self.hours, block, 12);
