@@ -22,6 +22,7 @@ pub enum Case {
 
 impl Entry for Case {
     fn read(book: &mut Reader<'_>, alloc: Global) -> Result<Case, BadBook> {
+        // a case's number is read here alone, and straight into the case
         match book.byte()? {
             0 => Ok(Case::File(read_bytes(book, alloc)?)),
             1 => Ok(Case::Block(read_bytes(book, alloc)?)),

@@ -129,6 +129,7 @@ impl Digested for Event {
     }
 }
 
+// An impl for each width, as in values.rt.
 impl Digested for u8 {
     fn add_to(&self, digest: &mut Digest) {
         digest.add(&u32::from(*self));

@@ -115,6 +115,7 @@ impl<T: Value + Default + Drop, const N: usize> Value for [T; N] {
     }
 }
 
+// An impl for each width: there is none over whatever number is read from a wider one.
 impl Value for u8 {
     fn read(book: &mut Reader<'_>) -> Result<u8, BadBook> {
         let value = book.word()?;

@@ -34,7 +34,7 @@ fn total_of(credits: &Credits) -> u128 {
         .fold(0, u128::saturating_add)
 }
 
-/// The sum over all pools.
+/// The sum over all pools, by `fold`: of a `sum` nothing in a chain says that it fits.
 fn row_total(amounts: &PoolAmounts) -> u128 {
     amounts
         .cents

@@ -8,7 +8,7 @@ use std::ops::{Add, Sub};
 pub struct Millicents(i64);
 
 impl Millicents {
-    /// Cents in millicents.
+    /// Cents in millicents; a `From` would not say of what.
     pub fn of_cents(cents: u32) -> Millicents {
         Millicents(i64::from(cents) * 1000)
     }

@@ -142,6 +142,7 @@ fn compare_row(
     booked: &PoolAmounts,
     engine: &PoolAmounts,
 ) -> io::Result<()> {
+    // both are asked for a pool by its number; nothing is indexed
     for pool in 1..=POOLS {
         let cents = booked.in_pool(pool);
         let answer = engine.in_pool(pool);

@@ -97,6 +97,7 @@ fn check_costs(amounts: &Table) -> Result<(), Fault>
     requires { Below 1000000000000000 amounts.now.rows }
     ensures { result ≡ refused_by (cost_fault (column amounts.now.rows) 21) }
 {
+    // a pool is asked for its cost by its number; nothing is indexed
     for pool in 1..=POOLS {
         if amounts.pool_total(pool) > DEAREST_POOL {
             return Err(Fault::PoolCost { pool: pool as u8 });

@@ -14,6 +14,7 @@ use dayfile::ResourceRecord;
 use std::array;
 
 /// A Resource day-ahead; its record keeps its limits.
+// An hour is a number below 24, which each method asks: a type of its own would be opened again at each array.
 #[derive(Clone, Copy)]
 pub(crate) struct DayAheadDay<'a> {
     pub(crate) resource: &'a ResourceRecord,
@@ -77,6 +78,7 @@ impl DayAheadDay<'_> {
         ensures small { result ≤ℤ pos 100000000000000 }
     {
         let mut sum = 0;
+        // a chain's `sum` would say nothing of the limits of signed amounts
         for hour in 0..24 {
             sum += self.amount(hour);
         }

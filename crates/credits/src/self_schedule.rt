@@ -41,6 +41,7 @@ impl DayAheadDay<'_> {
     {
         let mut block = 0;
         let mut gap = 0;
+        // hours are bits of a number, and rows of them are counted
         for hour in 0..24 {
             if self.is_self_scheduled(hour) {
                 if self.is_short_gap(gap, hour) {

@@ -40,6 +40,8 @@ fn is_above(last: Option<u32>, number: u32) -> bool
     last.is_none_or(|last| last < number)
 }
 
+// A kind goes beside its block from here on: a struct of both would borrow and have a ghost field, and no `Result` holds such.
+
 /// Whether a Resource's owners keep their rules, places lying below a limit.
 fn is_owned(kind: Kind, block: &[u8; BLOCK], limit: usize) -> bool
     requires { letter kind ≡ slice_index block.now 0 }

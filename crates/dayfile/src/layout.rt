@@ -417,6 +417,7 @@ impl Entry {
         requires { sized self.now ≡ true }
         ensures { result ≡ entry_fault self.now block.now }
     {
+        // nothing is indexed: which field it is gives the byte where it starts
         for i in 0..self.count {
             let at = self.start + i * self.stride;
             if !self.limits.allow(number_at(block, at, self.width)) {
@@ -464,6 +465,7 @@ impl Entry {
         ensures { result ≡ not (is_some (entry_fault self.now block.now)) }
     {
         let mut bad = false;
+        // nothing is indexed, as in `fault`
         for i in 0..self.count {
             bad |= !passes(number_inside::<W>(block, self.start + i * self.stride));
         }

@@ -10,6 +10,7 @@ ghost use Rattle.dayfile.specs.Writing.{LoadFits, OwnerFits, HourFits};
 use crate::bytes::{Part, byte_at, half_at, word_at, write_bytes};
 use crate::record::{Event, Flag, Load, Owner, RealTimeHour, UnknownNumber};
 
+// A method and no `From`: `flag.number()` says what it gives.
 impl Flag {
     /// The flag's number in a file.
     pub fn number(self) -> u8
@@ -76,6 +77,7 @@ impl TryFrom<u8> for Event {
     }
 }
 
+// An impl for each width: the bytes of a number are an array of its width, and there is no impl over any unsigned number.
 impl Part for u8 {
     const WIDTH: usize = 1;
 

@@ -81,6 +81,7 @@ fn cut_off(left: u64, above: u64, parts: &[Part]) -> u64
     }
     let mut low = 0;
     let mut high = above;
+    // a range of numbers is halved, and no slice
     loop {
         let middle = low + (high - low) / 2;
         let count = reaching(middle, parts);
