@@ -1,5 +1,5 @@
 -- The records of a day, and the blocks that write them.
-use Rattle.std.specs.Prelude.{◌≡◌, ℕ, ◌<◌, cond, List, ◌∷◌, ◌++◌, take, drop, ℤ, ◌==◌, Result, MatchResult, slice_index}
+use Rattle.std.specs.Prelude.{◌≡◌, ℕ, ◌<◌, cond, List, ◌∷◌, ◌++◌, take, drop, ℤ, ◌==◌, Result, MatchResult, codes, decimal, slice_index}
 use Rattle.std.specs.Int.{w32}
 use Rattle.std.proofs.Common.{to_z, of_z}
 use Rattle.std.specs.List.{flat_map}
@@ -44,6 +44,10 @@ event_number OwnRestart = 5
 abbrev pub event_named : ℕ → Event
 event_named n =
     cond (n == 0) Off (cond (n == 1) PoolRun (cond (n == 2) SelfRun (cond (n == 3) Trip (cond (n == 4) IsoRestart OwnRestart))))
+
+-- how a number that none has is shown
+abbrev pub unknown_text : ℕ → List ℕ
+unknown_text n = codes "the number " ++ decimal n ++ codes " is unknown"
 
 -- a number read as an event, likewise
 abbrev pub EventNumbered : ℕ → Result Event UnknownNumber → Type 0

@@ -63,6 +63,11 @@ pub enum Flag {
 pub struct UnknownNumber(pub u8);
 
 impl fmt::Display for UnknownNumber {
+    ghost use Rattle.std.specs.Prelude.{Some};
+    ghost use Rattle.dayfile.specs.Records.{unknown_text};
+
+    ghost output = { λ unknown. Some (unknown_text unknown.0) };
+
     fn fmt<W: fmt::Write>(&self, f: &mut fmt::Formatter<W>) -> fmt::Result {
         write!(f, "the number {} is unknown", self.0)
     }
