@@ -37,7 +37,7 @@ LINES = {
     "1 a number as an error": r"Result<[^<>]*(<[^<>]*>)?[^<>]*, u(8|16|32|64|size)>",
     "1 a truth value in a struct": r"^\s+(pub(\([a-z]+\))? )?\w+: bool,",
     "1 a function that answers whether it was done": r"-> (anyhow|io)::Result<bool>",
-    "3 a range counted by a variable": r"^\s*for \w+ in [^.{]*\.\.",
+    "3 a range counted by a variable": r"^\s*for \w+ in .*[^.]\.\.",
     "3 loop or while": r"^\s*(loop|while)\b",
     "3 a counter moved by hand": r"^\s*\w+ \+= (1|self\.stride|T::width\(\));",
     "4 words for cases": r"-> &'static str",
