@@ -1,2 +1,3 @@
 pub mod Writing
 pub mod Hours
+pub mod Stopping

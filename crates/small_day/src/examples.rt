@@ -1,14 +1,19 @@
 //! Writes an example into a directory.
+ghost use Rattle.std.specs.Prelude.{IfErr};
+ghost use Rattle.small_day.specs.Stopping.{FromOutside};
+
 use crate::stop::Stop;
 use std::fs;
 
-/// Writes the file `NAME.day` into a directory, and prints its path.
+/// Writes the file `NAME.day` into a directory, and prints its path. A failed read or write or want of memory may stop it, never a refusal or a wrong call.
 pub fn write_example(
     rt: &HostRuntime,
     directory: &str,
     name: &str,
     bytes: &[u8],
-) -> Result<(), Stop> {
+) -> Result<(), Stop>
+    ensures stops { IfErr result FromOutside }
+{
     let path = format!(in rt.alloc(); "{directory}/{name}.day")?;
     fs::write(rt, path.as_str(), bytes)?;
     println!(rt; "{path}")?;

@@ -1,4 +1,7 @@
 //! What a tour is asked for.
+ghost use Rattle.std.specs.Prelude.{IfErr};
+ghost use Rattle.small_day.specs.Stopping.{NoRefusal};
+
 use crate::stop::Stop;
 use std::env;
 
@@ -13,7 +16,9 @@ pub enum Task {
 
 impl Task {
     /// Reads the arguments; where they say no task, standard error says what they may be.
-    pub fn from_arguments(rt: &HostRuntime) -> Result<Task, Stop> {
+    pub fn from_arguments(rt: &HostRuntime) -> Result<Task, Stop>
+        ensures stops { IfErr result NoRefusal }
+    {
         let mut words = env::args(rt)?.skip(1);
         let Some(task) = words.next() else {
             return Ok(Task::Tour);
