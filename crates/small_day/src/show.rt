@@ -4,6 +4,7 @@ use dayfile::{Owner, ResourceRecord};
 use std::io;
 
 /// Prints the day-ahead record of a Resource: what is not 0.
+// No clause: what is printed is compared with the programs' stdout.
 pub fn print_resource(rt: &impl Print, resource: &ResourceRecord) -> io::Result<()> {
     let ResourceRecord {
         number,

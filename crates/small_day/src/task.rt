@@ -15,7 +15,7 @@ pub enum Task {
 }
 
 impl Task {
-    /// Reads the arguments; where they say no task, standard error says what they may be.
+    /// Reads the arguments; where they say no task, standard error says what they may be. No refusal stops it.
     pub fn from_arguments(rt: &HostRuntime) -> Result<Task, Stop>
         ensures stops { IfErr result NoRefusal }
     {
