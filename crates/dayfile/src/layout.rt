@@ -382,7 +382,7 @@ impl Limits {
         match *self {
             Limits::Unnamed => n == 0,
             Limits::Whole { least, most } => least <= n && n <= most,
-            Limits::Signed { most } => n <= most || n as u64 + most as u64 >= 4_294_967_296,
+            Limits::Signed { most } => n <= most || u64::from(n) + u64::from(most) >= 4_294_967_296,
         }
     }
 }
@@ -393,8 +393,8 @@ fn number_at(block: &[u8], at: usize, width: usize) -> u32
     ensures { result ≡ value at width block.now }
 {
     match width {
-        1 => byte_at(block, at) as u32,
-        2 => half_at(block, at) as u32,
+        1 => u32::from(byte_at(block, at)),
+        2 => u32::from(half_at(block, at)),
         _ => word_at(block, at),
     }
 }
@@ -405,7 +405,7 @@ fn number_inside<const W: usize>(block: &[u8], at: usize) -> u32
     ensures { result ≡ value at W block.now }
 {
     if W == 1 {
-        block[at] as u32
+        u32::from(block[at])
     } else {
         word_inside(block, at)
     }
@@ -413,7 +413,7 @@ fn number_inside<const W: usize>(block: &[u8], at: usize) -> u32
 
 impl Entry {
     /// Where its first faulty field starts.
-    fn fault(&self, block: &[u8]) -> Option<usize>
+    fn fault(&self, block: &[u8; BLOCK]) -> Option<usize>
         requires { sized self.now ≡ true }
         ensures { result ≡ entry_fault self.now block.now }
     {
@@ -428,14 +428,11 @@ impl Entry {
     }
 
     /// Whether no field is faulty.
-    fn holds(&self, block: &[u8]) -> bool
+    fn holds(&self, block: &[u8; BLOCK]) -> bool
         requires { sized self.now ≡ true }
         ensures { result ≡ not (is_some (entry_fault self.now block.now)) }
     {
         let end = self.start + self.count * self.stride;
-        if end > block.len() {
-            return self.fault(block).is_none();
-        }
         match (self.limits, self.width) {
             (Limits::Unnamed, _) if self.stride == 1 => all_zero(&block[self.start..end]),
             (Limits::Whole { least, most }, 4) => {
@@ -444,7 +441,7 @@ impl Entry {
             (Limits::Signed { most }, 4) => {
                 self.all_pass::<4, _>(
                     block,
-                    |n| (n <= most) | (n as u64 + most as u64 >= 4_294_967_296),
+                    |n| (n <= most) | (u64::from(n) + u64::from(most) >= 4_294_967_296),
                 )
             }
             (Limits::Whole { least, most }, 1) => {
@@ -456,9 +453,8 @@ impl Entry {
 
     /// Whether each of its fields, of `W` bytes, passes a test, which says what the limits allow.
     /// It looks at every field, since a loop with no way out before its end is the faster one.
-    fn all_pass<const W: usize, F: Fn(u32) -> bool>(&self, block: &[u8], passes: F) -> bool
+    fn all_pass<const W: usize, F: Fn(u32) -> bool>(&self, block: &[u8; BLOCK], passes: F) -> bool
         requires sized { sized self.now ≡ true }
-        requires inside { self.now.start + self.now.count * self.now.stride ≤ length block.now }
         requires width { (self.now.width ≡ W) × ((W ≡ 1) ⊎ (W ≡ 4)) }
         requires may_be_asked { (n : ℕ) → n < 2 ^ 32 → F.pre passes n }
         requires says_the_limits { (n : ℕ) (yes : Bool) → n < 2 ^ 32 → F.post passes n yes → yes ≡ allows self.now.limits n }
@@ -495,7 +491,7 @@ pub(crate) fn earlier_of(a: Option<usize>, b: Option<usize>) -> Option<usize>
 }
 
 /// Where the first faulty field of a block starts.
-pub(crate) fn field_fault(table: &[Entry], block: &[u8]) -> Option<usize>
+pub(crate) fn field_fault(table: &[Entry], block: &[u8; BLOCK]) -> Option<usize>
     requires { all_sized table.now ≡ true }
     ensures { result ≡ first_fault table.now block.now }
 {
@@ -534,7 +530,7 @@ fn add_row(once: &mut [u32; 16], often: &mut [u32; 16], row: &[u8])
 {
     for (k, byte) in row.iter().enumerate() {
         often[k] += once[k];
-        once[k] += *byte as u32;
+        once[k] += u32::from(*byte);
     }
 }
 

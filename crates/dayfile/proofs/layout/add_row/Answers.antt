@@ -1,4 +1,4 @@
-use Rattle.std.proofs.Common.{◌≡◌, ◌+◌, ◌<◌, ◌≢◌, length, get_or, take, sum, refl, ap, ◌∙◌, arith, rules}
+use Rattle.std.proofs.Common.{◌≡◌, ◌+◌, ◌*◌, ◌<◌, ◌≢◌, length, get_or, take, sum, refl, ap, ◌∙◌, arith, rules}
 use Rattle.std.proofs.lemmas.List.{length-set, get_or-set_other, take_all}
 use Rattle.std.proofs.lemmas.List.Sums.{sum_by_more, sum_by-take-le, get_or-le-sum_by}
 use Rattle.dayfile.specs.Bytes.{weighed}
@@ -31,7 +31,7 @@ loop-k-preserved c =
     let once = c.loop-k.once in
     let often = c.loop-k.often in
     let row = c.args.row.now in
-    let b = get_or c.args.row.now c.loop-k.k 0 in
+    let b = c.from.result in
     let a = get_or c.loop-k.once c.loop-k.k 0 in
     let inside : c.loop-k.k < length c.loop-k.once = omega arith in
     let inside_often : c.loop-k.k < length c.loop-k.often = omega arith in
@@ -39,8 +39,8 @@ loop-k-preserved c =
       length-set once k (a + b) ∙ c.loop-k.invariant.0,
       length-set often k (get_or often k 0 + a) ∙ c.loop-k.invariant.1,
       (λ j h. let ne : j ≢ c.loop-k.k = omega arith in get_or-set_other once k j (a + b) 0 ne ∙ c.loop-k.invariant.2 j (omega arith)),
-      omega (arith, sum_add once k b inside, sum_by_more (λ x. x) row k 0 c.loop-k-test.true, c.loop-k.invariant.3),
-      omega (arith, weighed_add 0 once k b inside, weighed_more row k c.loop-k-test.true, c.loop-k.invariant.4),
+      omega (arith, sum_add once k b inside, sum_by_more (λ x. x) row k 0 c.loop-k-test.true, c.loop-k.invariant.3, c.from.ensures),
+      omega (arith, weighed_add 0 once k b inside, weighed_more row k c.loop-k-test.true, ap (λ y. (k + 1) * y) c.from.ensures, c.loop-k.invariant.4),
       omega (arith, sum_add often k a inside_often, sum_by_more (λ x. x) c.args.once.now k 0 (omega arith), c.loop-k.invariant.5, same),
     )
 
