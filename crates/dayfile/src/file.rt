@@ -39,7 +39,7 @@ fn judge_file(file: &[u8]) -> Result<(), Fault>
         return Err(Fault::Length);
     }
     let before = judge_blocks(file)?;
-    if before.participants == file[10] as usize && before.resources == file[11] as usize {
+    if before.participants == usize::from(file[10]) && before.resources == usize::from(file[11]) {
         Ok(())
     } else {
         Err(Fault::Counts)

@@ -50,7 +50,7 @@ fn is_owned(kind: Kind, block: &[u8; BLOCK], limit: usize) -> bool
     match kind {
         Kind::Resource => kept(
             &read_parts::<Owner, OWNERS>(&block[120..168]),
-            block[113] as usize,
+            usize::from(block[113]),
             limit,
         ),
         Kind::Day | Kind::Participant | Kind::RealTime => true,

@@ -27,8 +27,9 @@ pub use fault::{Fault, Layer, Place};
 pub use file::{BLOCK, LONGEST, admit, read_block};
 pub use kind::Kind;
 pub use layout::check_of;
+pub use owners::{PLACES, WHOLE};
 pub use record::{
-    DayRecord, Event, Flag, Load, Owner, ParticipantRecord, RealTimeHour, RealTimeRecord, Record,
-    ResourceRecord, UnknownNumber,
+    DayRecord, Event, Flag, HOURS, Load, OWNERS, Owner, ParticipantRecord, REGIONS, RealTimeHour,
+    RealTimeRecord, Record, ResourceRecord, UnknownNumber,
 };
 pub use write::write_record;

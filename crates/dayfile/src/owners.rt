@@ -5,10 +5,10 @@ ghost use Rattle.dayfile.specs.Owners.{placed, parts_of, vacant, owners_kept};
 use crate::record::Owner;
 
 /// The participants that a day can count: a block by itself may name their places, 0 to 47.
-pub(crate) const PLACES: usize = 48;
+pub const PLACES: usize = 48;
 
 /// What all owners' parts add up to.
-const WHOLE: u64 = 1_000_000;
+pub const WHOLE: u64 = 1_000_000;
 
 /// Whether owners hold some part each, at rising places below a limit, and all of it together.
 fn whole(owners: &[Owner], limit: usize) -> bool
@@ -18,12 +18,12 @@ fn whole(owners: &[Owner], limit: usize) -> bool
     let mut least: usize = 0;
     let mut sum: u64 = 0;
     for owner in owners {
-        let place = owner.place as usize;
+        let place = usize::from(owner.place);
         if place < least || place >= limit || owner.parts == 0 {
             return false;
         }
         least = place + 1;
-        sum += owner.parts as u64;
+        sum += u64::from(owner.parts);
     }
     sum == WHOLE
 }
@@ -32,7 +32,7 @@ fn whole(owners: &[Owner], limit: usize) -> bool
 fn unused(slots: &[Owner]) -> bool
     ensures { result ≡ vacant slots.now }
 {
-    slots.iter().all(|slot| slot.place == 0 && slot.parts == 0)
+    slots.iter().all(|slot| *slot == Owner::default())
 }
 
 /// Whether the first `count` slots hold owners that keep the rules, and no other slot is in use.
