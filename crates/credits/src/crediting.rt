@@ -8,7 +8,7 @@ ghost use Rattle.credits.specs.Crediting.{participants_of, resource_credit, cred
 ghost use Rattle.credits.specs.Laws.{CreditsAddUp, CostsWithin, LawfulCredits};
 
 use crate::allocation::allocate;
-use crate::amounts::{POOLS, PoolAmounts};
+use crate::amounts::{POOLS, Pool, PoolAmounts};
 use crate::credits::{Credits, PLACES};
 use crate::hourly::HourlyCents;
 use crate::owner::OwnerShare;
@@ -98,9 +98,9 @@ fn check_costs(amounts: &Table) -> Result<(), Fault>
     ensures { result ≡ refused_by (cost_fault (column amounts.now.rows) 21) }
 {
     // a pool is asked for its cost by its number; nothing is indexed
-    for pool in 1..=POOLS {
-        if amounts.pool_total(pool) > DEAREST_POOL {
-            return Err(Fault::PoolCost { pool: pool as u8 });
+    for number in 1..=POOLS {
+        if amounts.pool_total(Pool { number }) > DEAREST_POOL {
+            return Err(Fault::PoolCost { pool: number as u8 });
         }
     }
     Ok(())

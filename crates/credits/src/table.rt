@@ -33,11 +33,10 @@ impl Table {
     }
 
     /// The sum of a pool's credits, which is its cost.
-    pub(crate) fn pool_total(&self, pool: usize) -> u64
-        requires pool { 1 ≤ pool }
-        requires below { Below 1000000000000000 self.now.rows }
-        ensures { result ≡ column self.now.rows pool }
+    pub(crate) fn pool_total(&self, pool: Pool) -> u64
+        requires { Below 1000000000000000 self.now.rows }
+        ensures { result ≡ column self.now.rows pool.number }
     {
-        self.rows.iter().map(|row| row.in_pool(pool)).sum()
+        self.rows.iter().map(|row| row.in_pool(pool.number)).sum()
     }
 }
