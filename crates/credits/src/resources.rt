@@ -1,9 +1,10 @@
 //! The Resources of an admitted day.
-ghost use Rattle.std.specs.Prelude.{◌≡◌, ◌<◌, drop, is_some};
+ghost use Rattle.std.specs.Prelude.{◌≡◌, ◌<◌, length, drop, is_some, IfSome};
 ghost use Rattle.std.specs.Iterator.{YieldsFirst, item_count};
 ghost use Rattle.std.specs.List.{AllByRecursion};
 ghost use Rattle.dayfile.specs.Days.{records};
-ghost use Rattle.credits.specs.Resources.{real_time_first, resource_first, of_resource, resources_of, resources_behind, numbered};
+ghost use Rattle.credits.specs.Resources.{real_time_first, resource_first, of_resource, resources_of, resources_behind, numbered, Kept};
+ghost use Rattle.credits.specs.Crediting.{participants_of};
 ghost use Rattle.credits.specs.Laws.{LawfulCredits};
 
 use crate::resource::ResourceDay;
@@ -36,7 +37,8 @@ fn opens_resource(day: &AdmittedDay<'_>, k: usize) -> bool
 /// The Resource that block `k` opens, if it opens one.
 fn resource_at(day: &AdmittedDay<'_>, k: usize) -> Option<ResourceDay>
     requires { k < 128 }
-    ensures { result ≡ resource_first k (drop k (records day.now.file.now)) }
+    ensures value { result ≡ resource_first k (drop k (records day.now.file.now)) }
+    ensures kept { IfSome result (Kept (length (participants_of day.now.file.now))) }
 {
     if !opens_resource(day, k) {
         return None;

@@ -9,7 +9,7 @@ pub loop-k-preserved : goal.loop-k-preserved
 loop-k-preserved c =
     let f = c.loop-k.self.day.now.file.now in
     let l : c.loop-k.k < blocks f = omega (arith, c.loop-k-test.true, c.blocks-k-end.ensures, ap (λ (s : ResourceIter). blocks s.day.now.file.now) c.loop-k.invariant.same) in
-    record { same = c.loop-k.invariant.same; none = c.loop-k.invariant.none ∙ resources_more f c.loop-k.k None l (sym c.in_default.is ∙ c.resource_at.ensures) }
+    record { same = c.loop-k.invariant.same; none = c.loop-k.invariant.none ∙ resources_more f c.loop-k.k None l (sym c.in_default.is ∙ c.resource_at.ensures.value) }
 
 pub returns-in-Some : goal.returns-in-Some
 returns-in-Some c =
@@ -19,7 +19,7 @@ returns-in-Some c =
     let l : k < blocks f = omega (arith, c.loop-k-test.true, c.blocks-k-end.ensures, ap (λ (s : ResourceIter). blocks s.day.now.file.now) c.loop-k.invariant.same) in
     let e : resources_behind b c.args.self.now.day.now.file.now ≡ c.in-Some.unit ∷ resources_behind (k + 1) f =
     ap (λ (s : ResourceIter). resources_behind b s.day.now.file.now) (sym c.loop-k.invariant.same)
-    ∙ c.loop-k.invariant.none ∙ resources_more f k (Some c.in-Some.unit) l (sym c.in-Some.is ∙ c.resource_at.ensures) in
+    ∙ c.loop-k.invariant.none ∙ resources_more f k (Some c.in-Some.unit) l (sym c.in-Some.is ∙ c.resource_at.ensures.value) in
     let n : length (resources_behind (k + 1) f) < length (resources_behind b c.args.self.now.day.now.file.now) = omega (arith, ap length e) in
     record { steps = e; goes = record { on = λ _. (tt, tt, n); keeps = tt; rests = λ _. tt } }
 
