@@ -45,7 +45,7 @@ fn credit_hours(unit: &ResourceDay, cents: &HourlyCents, amounts: &mut Table)
 {
     // slots that are not in use own nothing
     let mut slots = unit.resource.owners.map(OwnerShare::from);
-    let owners = &mut slots[..unit.resource.owner_count as usize];
+    let owners = &mut slots[..usize::from(unit.resource.owner_count)];
     // by the hour's number, since each market's pool goes by it too
     for hour in 0..24 {
         share_out(
@@ -110,7 +110,7 @@ fn check_costs(amounts: &Table) -> Result<(), Fault>
 fn participant_count(day: &AdmittedDay<'_>) -> usize
     ensures { result ≡ length (participants_of day.now.file.now) }
 {
-    day.header().participants as usize
+    usize::from(day.header().participants)
 }
 
 /// The number of the participant at a place, and 0 from the count on.

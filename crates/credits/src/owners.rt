@@ -37,7 +37,7 @@ impl Placed for OwnerShare {
     ghost placing = { record { below = λ o. placed_below o.place } };
 
     fn place(&self) -> usize {
-        self.place.min(LAST_PLACE) as usize
+        usize::from(self.place.min(LAST_PLACE))
     }
 }
 

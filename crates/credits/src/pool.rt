@@ -19,7 +19,7 @@ impl Market {
         requires { (1 ≤ region) × (region ≤ 8) }
         ensures { result.number ≡ pool_of self flag region }
     {
-        let region = region as usize;
+        let region = usize::from(region);
         let number = match (self, flag) {
             // no admitted day has SCR day-ahead
             (Market::DayAhead, Flag::Economic | Flag::Scr) => 1,

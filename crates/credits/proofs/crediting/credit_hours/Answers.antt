@@ -16,9 +16,10 @@ unfolding total
 loop-hour-init c =
     let g = c.unit.inside.resource in
     let is = ap (λ (x : ResourceDay). x.resource) c.unit.view_is in
-    let slots = mapped _ of_owner _ (λ x y q k. search rules) no_owner no_share g.owners c.map-slots.result 8 c.unit.invariant.kept.resource.slots c.map-slots.ensures.items in (
-      ap (λ os. map (λ o. o.place) (take g.owner_count os)) slots ∙ first_owners (λ o. o.place) (λ o. o.place) (λ o. refl) g.owner_count g.owners ∙ ap owner_places is,
-      ap (λ os. map (λ o. o.parts) (take g.owner_count os)) slots ∙ first_owners (λ o. o.parts) (λ o. o.parts) (λ o. refl) g.owner_count g.owners ∙ ap owner_parts is,
+    let slots = mapped _ of_owner _ (λ x y q k. search rules) no_owner no_share g.owners c.map-slots.result 8 c.unit.invariant.kept.resource.slots c.map-slots.ensures.items in
+    let taken = ap (λ n. take n c.map-slots.result) c.from.ensures ∙ ap (take g.owner_count) slots in (
+      ap (map (λ o. o.place)) taken ∙ first_owners (λ o. o.place) (λ o. o.place) (λ o. refl) g.owner_count g.owners ∙ ap owner_places is,
+      ap (map (λ o. o.parts)) taken ∙ first_owners (λ o. o.parts) (λ o. o.parts) (λ o. refl) g.owner_count g.owners ∙ ap owner_parts is,
       λ most b i p. omega (arith, b i p),
       λ i p _ _ _. omega arith,
     )
