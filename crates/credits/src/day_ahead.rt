@@ -78,7 +78,7 @@ impl DayAheadDay<'_> {
         ensures small { result ≤ℤ pos 100000000000000 }
     {
         let mut sum = 0;
-        // a chain's `sum` would say nothing of the limits of signed amounts
+        // a chain's `sum` has to be shown to fit before it is taken, which is hard for signed amounts
         for hour in 0..24 {
             sum += self.amount(hour);
         }

@@ -9,6 +9,7 @@ use crate::hourly::HourCents;
 use crate::share::HourShare;
 use division::{HEAVIEST, Weighted, divide};
 
+// No Portion of division: an hour that does not share is None, and one that shares may have 0 kWh.
 impl Weighted for HourShare {
     ghost weighs = { λ x. cut (shared_kwh x) };
 

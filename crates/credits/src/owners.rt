@@ -13,6 +13,7 @@ use division::{HEAVIEST, Placed, Weighted, divide};
 /// The last place of a participant.
 const LAST_PLACE: u16 = 47;
 
+// No Portion of division: an owner also names its participant's place.
 impl Weighted for OwnerShare {
     ghost weighs = { λ o. cut o.parts };
 

@@ -26,7 +26,7 @@ fn weight_of_few<T: Weighted>(records: &[T]) -> u64
 }
 
 /// The whole part of a record's exact share, and the key of its remainder.
-#[derive(Clone, Copy)]
+#[derive(Clone, Copy, Default)]
 struct Part {
     whole: u64,
     key: u64,
@@ -118,7 +118,7 @@ pub(crate) fn divide_few<T: Weighted>(cents: u64, records: &mut [T]) -> Option<(
     if total == 0 {
         return None;
     }
-    let mut noted = [Part { whole: 0, key: 0 }; MOST_RECORDS];
+    let mut noted = [Part::default(); MOST_RECORDS];
     let parts = &mut noted[..records.len()];
     let left = note_parts(cents, total, records, parts);
     hand_out(cut_off(left, 64 * total, parts), parts, records);
