@@ -2,7 +2,8 @@
 use crate::book::Case;
 use crate::digest::Digest;
 use dayfile::{
-    AdmittedDay, BLOCK, DayRecord, Fault, Place, Record, admit, read_block, write_day, write_record,
+    AdmittedDay, BLOCK, DayRecord, Fault, Kind, Place, Record, admit, read_block, write_day,
+    write_record,
 };
 use std::fmt;
 
@@ -17,7 +18,7 @@ pub enum Answer {
     },
     /// A block by itself is read.
     Shows {
-        kind: char,
+        kind: Kind,
         digest: u32,
     },
     /// A record is written.
@@ -62,7 +63,7 @@ fn answer_block(block: &[u8]) -> Result<Answer, Fault> {
     let mut digest = Digest::default();
     digest.add(&record);
     Ok(Answer::Shows {
-        kind: char::from(record.kind().letter()),
+        kind: record.kind(),
         digest: digest.value,
     })
 }
@@ -94,7 +95,10 @@ impl fmt::Display for Answer {
                     "accepted {date} {version} {participants} {resources} {digest} {same}"
                 )
             }
-            Answer::Shows { kind, digest } => write!(f, "shows {kind} {digest}"),
+            Answer::Shows { kind, digest } => {
+                let letter = char::from(kind.letter());
+                write!(f, "shows {letter} {digest}")
+            }
             Answer::Written { digest } => write!(f, "written {digest}"),
         }
     }

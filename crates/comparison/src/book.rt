@@ -39,6 +39,7 @@ fn read_bytes(book: &mut Reader<'_>, alloc: Global) -> Result<Vec<u8>, BadBook> 
         return Err(BadBook::Length(length));
     }
     let mut bytes = vec![in alloc; 0; length]?;
+    // so many patches follow; nothing is indexed
     for _patch in 0..book.half()? {
         read_patch(book, bytes.as_mut_slice())?;
     }
