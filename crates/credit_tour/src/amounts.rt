@@ -21,12 +21,10 @@ impl Amounts {
 
 impl AddAssign for Amounts {
     fn add_assign(&mut self, other: Amounts) {
-        *self = Amounts {
-            energy: self.energy + other.energy,
-            start_up: self.start_up + other.start_up,
-            no_load: self.no_load + other.no_load,
-            value: self.value + other.value,
-        };
+        self.energy += other.energy;
+        self.start_up += other.start_up;
+        self.no_load += other.no_load;
+        self.value += other.value;
     }
 }
 

@@ -3,8 +3,8 @@ use crate::restart;
 use dayfile::{DayRecord, Event, Flag, Record};
 use small_day::{participants, resource};
 
-/// The day's own record, of three participants.
-fn header(date: u32, resources: u8) -> Record {
+/// A day's own record, of three participants.
+pub fn header(date: u32, resources: u8) -> Record {
     Record::Day(DayRecord {
         date,
         version: 1,

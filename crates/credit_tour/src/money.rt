@@ -1,6 +1,6 @@
 //! Money in millicents.
 use std::fmt;
-use std::ops::{Add, Sub};
+use std::ops::{Add, AddAssign, Sub};
 
 /// An amount in millicents, of which a thousand are a cent. What a day's amounts add up to is far from its limits, at which
 /// sums and differences stay.
@@ -28,7 +28,7 @@ impl Millicents {
 
     /// The nearest cents, half a cent up; an amount below 0 is 0 cents.
     pub fn to_cents(self) -> u64 {
-        (self.0.max(0) as u64 + 500) / 1000
+        (u64::try_from(self.0).unwrap_or(0) + 500) / 1000
     }
 }
 
@@ -37,6 +37,12 @@ impl Add for Millicents {
 
     fn add(self, other: Millicents) -> Millicents {
         Millicents(self.0.saturating_add(other.0))
+    }
+}
+
+impl AddAssign for Millicents {
+    fn add_assign(&mut self, other: Millicents) {
+        *self = *self + other;
     }
 }
 

@@ -59,7 +59,7 @@ fn note_events(
         let step = commitment.step(*event, opening, minimum);
         commitment = commitment.after(step);
         *eligible = commitment.is_eligible();
-        fees = fees + step.fee();
+        fees += step.fee();
         if !step.is_idle() {
             let hour = k + 1;
             let event = EventName(*event);

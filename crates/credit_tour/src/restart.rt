@@ -1,7 +1,6 @@
 //! The records of a day with a trip and a restart: the small day's participants, and a Resource with a real-time record.
-use dayfile::{
-    BLOCK, DayRecord, Event, Flag, Owner, RealTimeHour, RealTimeRecord, Record, ResourceRecord,
-};
+use crate::days::header;
+use dayfile::{BLOCK, Event, Flag, Owner, RealTimeHour, RealTimeRecord, Record, ResourceRecord};
 use small_day::participants;
 
 /// How many records the day has.
@@ -13,12 +12,7 @@ pub const RESTART_BYTES: usize = BLOCK * RESTART_RECORDS;
 pub fn restart_day() -> [Record; RESTART_RECORDS] {
     let [first, second, third] = participants();
     [
-        Record::Day(DayRecord {
-            date: 20_001,
-            version: 1,
-            participants: 3,
-            resources: 1,
-        }),
+        header(20_001, 1),
         first,
         second,
         third,
