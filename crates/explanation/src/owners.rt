@@ -5,11 +5,8 @@ ghost use Rattle.dayfile.specs.Records.{resource_of, owner_from};
 ghost use Rattle.explanation.specs.Shares.{used_rule, sum_rule, in_use, unused_rule, owners_rule};
 
 use crate::finding::OwnersRule;
-use dayfile::{Owner, half_at, word_at};
+use dayfile::{Owner, WHOLE, half_at, word_at};
 use std::array;
-
-/// What all owners' parts add up to.
-const WHOLE: u64 = 1_000_000;
 
 /// The first rule that owners break, the first `count` slots being in use and places lying below a limit.
 pub(crate) fn broken_rule(owners: &[Owner], count: usize, limit: usize) -> Option<OwnersRule>
