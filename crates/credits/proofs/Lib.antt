@@ -11,6 +11,7 @@ pub mod Worths
 pub mod Totals
 pub mod Made
 pub mod Finding
+pub mod Opening
 pub mod Rows
 pub mod Columns
 pub mod Sharing

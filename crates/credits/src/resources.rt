@@ -68,14 +68,10 @@ impl<'d> Iterator for ResourceIter<'d> {
     ghost remaining = { item_count (λ s. resources_behind s.block s.day.now.file.now) };
 
     fn next(&mut self) -> Option<ResourceDay> {
-        // by the block's number, since a Resource tells its own and the real-time record's is the next
-        for k in self.block..self.day.blocks() {
-            if let Some(unit) = resource_at(self.day, k) {
-                self.block = k + 1;
-                return Some(unit);
-            }
-        }
-        None
+        let day = self.day;
+        let unit = (self.block..day.blocks()).find_map(|k| resource_at(day, k))?;
+        self.block = unit.block + 1;
+        Some(unit)
     }
 }
 

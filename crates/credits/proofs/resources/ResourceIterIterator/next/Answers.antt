@@ -1,34 +1,29 @@
-use Rattle.std.proofs.Common.{◌≡◌, ◌+◌, ◌<◌, ◌≤◌, ◌∷◌, length, Some, None, sym, ap, ◌∙◌, arith}
-use Rattle.dayfile.specs.Files.{blocks}
+use Rattle.std.proofs.Common.{◌+◌, ◌<◌, ◌∷◌, length, sym, ap, ◌∙◌, subst, arith, rules, tests}
+use Rattle.std.specs.Iterator.{YieldsFirst}
 use Rattle.credits.specs.declared.resources.ResourceIter.{ResourceIter}
-use Rattle.credits.specs.Resources.{resources_behind}
-use Rattle.credits.proofs.Days.{resources_more, resources_none}
+use Rattle.credits.specs.Resources.{ResourceDay, resources_behind}
+use Rattle.credits.proofs.Opening.{next_found, none_found}
 use Rattle.credits.proofs.resources.ResourceIterIterator.next.Goals as goal
 
-pub loop-k-preserved : goal.loop-k-preserved
-loop-k-preserved c =
-    let f = c.loop-k.self.day.now.file.now in
-    let l : c.loop-k.k < blocks f = omega (arith, c.loop-k-test.true, c.blocks-k-end.ensures, ap (λ (s : ResourceIter). blocks s.day.now.file.now) c.loop-k.invariant.same) in
-    record { same = c.loop-k.invariant.same; none = c.loop-k.invariant.none ∙ resources_more f c.loop-k.k None l (sym c.in_default.is ∙ c.resource_at.ensures.value) }
-
-pub returns-in-Some : goal.returns-in-Some
-returns-in-Some c =
-    let f = c.loop-k.self.day.now.file.now in
-    let k = c.loop-k.k in
-    let b = c.args.self.now.block in
-    let l : k < blocks f = omega (arith, c.loop-k-test.true, c.blocks-k-end.ensures, ap (λ (s : ResourceIter). blocks s.day.now.file.now) c.loop-k.invariant.same) in
-    let e : resources_behind b c.args.self.now.day.now.file.now ≡ c.in-Some.unit ∷ resources_behind (k + 1) f =
-    ap (λ (s : ResourceIter). resources_behind b s.day.now.file.now) (sym c.loop-k.invariant.same)
-    ∙ c.loop-k.invariant.none ∙ resources_more f k (Some c.in-Some.unit) l (sym c.in-Some.is ∙ c.resource_at.ensures.value) in
-    let n : length (resources_behind (k + 1) f) < length (resources_behind b c.args.self.now.day.now.file.now) = omega (arith, ap length e) in
-    record { steps = e; goes = record { on = λ _. (tt, tt, n); keeps = tt; rests = λ _. tt } }
+pub returns-in_err-unit-clause-steps : goal.returns-in_err-unit-clause-steps
+returns-in_err-unit-clause-steps c =
+    let s = c.args.self.now in
+    let none = none_found _ s.day.now.file.now _ (λ k r q h. search (rules, tests)) _ (search rules) c.in_err-unit.ensures.runs in
+    subst (λ r. YieldsFirst (λ (t : ResourceIter). resources_behind t.block t.day.now.file.now) s r s) (sym c.from_residual.ensures) (none, none)
 
 pub returns-clause-steps : goal.returns-clause-steps
 returns-clause-steps c =
-    let f = c.loop-k.self.day.now.file.now in
-    let k = c.loop-k.k in
-    let end : blocks f ≤ k = omega (arith, c.loop-k-test.false, c.blocks-k-end.ensures, ap (λ (s : ResourceIter). blocks s.day.now.file.now) c.loop-k.invariant.same) in
-    let none = c.loop-k.invariant.none ∙ resources_none f k end in (
-      ap (λ (s : ResourceIter). resources_behind c.args.self.now.block s.day.now.file.now) (sym c.loop-k.invariant.same) ∙ none,
-      ap (λ (s : ResourceIter). resources_behind s.block f) c.loop-k.invariant.same ∙ none,
-    )
+    let f = c.args.self.now.day.now.file.now in
+    let x = c.in_ok-unit.unit in
+    next_found _ f _ (λ k r q h. search (rules, tests)) _ c.find_map.new.self x (search rules) c.in_ok-unit.ensures.ran
+    ∙ ap (λ (y : ResourceDay). x ∷ resources_behind (y.block + 1) f) (sym c.unit.view_is)
+
+pub returns-clause-goes : goal.returns-clause-goes
+returns-clause-goes c =
+    let s = c.args.self.now in
+    let f = s.day.now.file.now in
+    let x = c.in_ok-unit.unit in
+    let e = next_found _ f _ (λ k r q h. search (rules, tests)) _ c.find_map.new.self x (search rules) c.in_ok-unit.ensures.ran in
+    let n : length (resources_behind (c.unit.inside.block + 1) f) < length (resources_behind s.block f) =
+    omega (arith, ap length e, ap (λ (y : ResourceDay). length (resources_behind (y.block + 1) f)) c.unit.view_is) in
+    record { on = λ _. (tt, tt, n); keeps = tt; rests = λ _. tt }
