@@ -17,6 +17,7 @@ use std::process::ExitCode;
 use task::{Task, read_task};
 
 /// What is read of the input: a byte more than the longest file has, so that a longer one is still refused.
+// `check_day` reads the same in the same lines: a crate for them would be no plainer.
 const READ: u64 = LONGEST as u64 + 1;
 
 /// Does what the arguments ask of the file on standard input; the status says whether it could be done.

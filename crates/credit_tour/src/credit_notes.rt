@@ -42,9 +42,9 @@ fn note_scheduled(rt: &impl Print, resource: &ResourceRecord) -> io::Result<Amou
     )?;
     let mut amounts = Amounts::default();
     let mut runs = resource.hours_on_line > 0;
-    for (k, hour) in day_ahead_hours(resource).iter().enumerate() {
+    for (number, hour) in (1u8..).zip(&day_ahead_hours(resource)) {
         if is_scheduled(hour) {
-            amounts += note_hour(rt, k + 1, hour, resource, runs)?;
+            amounts += note_hour(rt, number, hour, resource, runs)?;
         }
         runs = is_scheduled(hour) || hour.self_scheduled;
     }
@@ -54,7 +54,7 @@ fn note_scheduled(rt: &impl Print, resource: &ResourceRecord) -> io::Result<Amou
 /// Notes a scheduled hour, and answers its amounts; the unit may already run in the hour before.
 fn note_hour(
     rt: &impl Print,
-    number: usize,
+    number: u8,
     hour: &DayAheadHour,
     resource: &ResourceRecord,
     runs: bool,

@@ -25,6 +25,7 @@ use small_day::{Stop, Task};
 use small_tour::run_small_tour;
 use std::process::ExitCode;
 
+// Each tour has its own `main`, as it has its own tasks; where it stops, `main` says so by the status alone.
 fn main(rt: HostRuntime) -> ExitCode {
     match run(&rt) {
         Ok(()) => ExitCode::SUCCESS,

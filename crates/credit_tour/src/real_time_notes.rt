@@ -55,13 +55,12 @@ fn note_events(
     let mut eligible = [false; 24];
     let mut fees = Millicents::default();
     let mut commitment = Commitment::Down;
-    for (k, (event, eligible)) in real_time.events.iter().zip(&mut eligible).enumerate() {
+    for (hour, (event, eligible)) in (1u8..).zip(real_time.events.iter().zip(&mut eligible)) {
         let step = commitment.step(*event, opening, minimum);
         commitment = commitment.after(step);
         *eligible = commitment.is_eligible();
         fees += step.fee();
         if !step.is_idle() {
-            let hour = k + 1;
             let event = EventName(*event);
             println!(rt; "   hour {hour}, {event}: {step}")?;
         }
@@ -90,9 +89,9 @@ fn note_eligible(
     };
     let no_load = Millicents::of_cents(resource.no_load_cents);
     let hours = real_time.hours.iter().zip(&resource.prices);
-    for (k, ((figures, price), eligible)) in hours.zip(&walk.eligible).enumerate() {
+    for (hour, ((figures, price), eligible)) in (1u8..).zip(hours.zip(&walk.eligible)) {
         if *eligible {
-            amounts += note_hour(rt, k + 1, figures, minimum, *price, no_load)?;
+            amounts += note_hour(rt, hour, figures, minimum, *price, no_load)?;
         }
     }
     Ok(amounts)
@@ -101,7 +100,7 @@ fn note_eligible(
 /// Notes an eligible hour, and answers its amounts.
 fn note_hour(
     rt: &impl Print,
-    hour: usize,
+    hour: u8,
     figures: &RealTimeHour,
     minimum: u32,
     price: i32,

@@ -18,8 +18,8 @@ pub fn note_hours(
     let mut grid = Grid::empty();
     hourly_allocation(day, number, &mut grid)?;
     let kwh = kwh_of(hours);
-    for (k, (part, engine)) in hours.iter().zip(&grid.hours).enumerate() {
-        note_hour(rt, k + 1, part, kwh, engine)?;
+    for (hour, (part, engine)) in (1u8..).zip(hours.iter().zip(&grid.hours)) {
+        note_hour(rt, hour, part, kwh, engine)?;
     }
     Ok(())
 }
@@ -35,7 +35,7 @@ fn kwh_of(hours: &[Portion<usize>; 24]) -> u64 {
 /// Notes an hour that shares.
 fn note_hour(
     rt: &impl Print,
-    hour: usize,
+    hour: u8,
     part: &Portion<usize>,
     of: u64,
     engine: &PoolAmounts,
@@ -63,9 +63,9 @@ pub fn note_owners(
     hours: &[Portion<usize>; 24],
 ) -> Result<(), Stop> {
     let mut booked = [PoolAmounts::none(); PLACES];
-    for (k, part) in hours.iter().enumerate() {
+    for (hour, part) in (1u8..).zip(hours) {
         if part.weight > 0 {
-            note_shares(rt, k + 1, part, resource, &mut booked)?;
+            note_shares(rt, hour, part, resource, &mut booked)?;
         }
     }
     compare(rt, day, &booked)
@@ -74,7 +74,7 @@ pub fn note_owners(
 /// Divides an hour's cents over the owners, notes their shares in the order of places, and books them.
 fn note_shares(
     rt: &impl Print,
-    hour: usize,
+    hour: u8,
     part: &Portion<usize>,
     resource: &ResourceRecord,
     booked: &mut [PoolAmounts; PLACES],

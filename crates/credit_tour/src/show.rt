@@ -13,9 +13,9 @@ pub fn print_real_time(rt: &impl Print, real_time: &RealTimeRecord) -> io::Resul
         flags,
     } = real_time;
     println!(rt; "   Resource {number} in real time; Economic Minimum: {minimum} kWh")?;
-    for (k, ((figures, event), flag)) in hours.iter().zip(events).zip(flags).enumerate() {
+    for (hour, ((figures, event), flag)) in (1u8..).zip(hours.iter().zip(events).zip(flags)) {
         if *event != Event::Off {
-            print_hour(rt, k + 1, figures, *event, *flag)?;
+            print_hour(rt, hour, figures, *event, *flag)?;
         }
     }
     Ok(())
@@ -24,7 +24,7 @@ pub fn print_real_time(rt: &impl Print, real_time: &RealTimeRecord) -> io::Resul
 /// Prints an hour with its event and figures.
 fn print_hour(
     rt: &impl Print,
-    hour: usize,
+    hour: u8,
     figures: &RealTimeHour,
     event: Event,
     flag: Flag,

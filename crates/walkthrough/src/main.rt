@@ -14,6 +14,7 @@ use small_day::{Stop, Task};
 use std::process::ExitCode;
 use tour::run_tour;
 
+// Each tour has its own `main`, as it has its own tasks; where it stops, `main` says so by the status alone.
 fn main(rt: HostRuntime) -> ExitCode {
     match run(&rt) {
         Ok(()) => ExitCode::SUCCESS,
