@@ -42,11 +42,11 @@ fn note_scheduled(rt: &impl Print, resource: &ResourceRecord) -> io::Result<Amou
     )?;
     let mut amounts = Amounts::default();
     let mut runs = resource.hours_on_line > 0;
-    for (number, hour) in (1u8..).zip(&day_ahead_hours(resource)) {
-        if is_scheduled(hour) {
-            amounts += note_hour(rt, number, hour, resource, runs)?;
+    for (hour, figures) in (1u8..).zip(&day_ahead_hours(resource)) {
+        if is_scheduled(figures) {
+            amounts += note_hour(rt, hour, figures, resource, runs)?;
         }
-        runs = is_scheduled(hour) || hour.self_scheduled;
+        runs = is_scheduled(figures) || figures.self_scheduled;
     }
     Ok(amounts)
 }
@@ -54,8 +54,8 @@ fn note_scheduled(rt: &impl Print, resource: &ResourceRecord) -> io::Result<Amou
 /// Notes a scheduled hour, and answers its amounts; the unit may already run in the hour before.
 fn note_hour(
     rt: &impl Print,
-    number: u8,
-    hour: &DayAheadHour,
+    hour: u8,
+    figures: &DayAheadHour,
     resource: &ResourceRecord,
     runs: bool,
 ) -> io::Result<Amounts> {
@@ -64,7 +64,7 @@ fn note_hour(
         price,
         lmp,
         ..
-    } = *hour;
+    } = *figures;
     let (before, fee) = if runs {
         ("runs", 0)
     } else {
@@ -74,7 +74,7 @@ fn note_hour(
     let start_up = Millicents::of_cents(fee);
     let no_load = Millicents::of_cents(resource.no_load_cents);
     let value = Millicents::of_energy(lmp, cleared_kwh);
-    println!(rt; "   hour {number}: {cleared_kwh} kWh cleared")?;
+    println!(rt; "   hour {hour}: {cleared_kwh} kWh cleared")?;
     println!(rt; "      energy at the offered price of {price}: {energy}")?;
     println!(rt; "      Start-Up Fee, as the unit {before} in the hour before: {start_up}")?;
     println!(rt; "      No-Load Fee: {no_load}")?;
