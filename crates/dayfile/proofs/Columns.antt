@@ -1,8 +1,10 @@
 -- The check of a block, by bytes and by columns of bytes.
-use Rattle.std.proofs.Common.{◌≡◌, ℕ, zero, suc, ◌+◌, ◌-◌, ◌*◌, ◌^◌, ◌<◌, ◌≤◌, List, [], ◌∷◌, ◌++◌, length, get_or, take, drop, set, sum, sym, refl, ap, ◌∙◌, le_refl, add-zero, add-mul, mul-le-mul, zero-add, mul-add, arith}
-use Rattle.std.proofs.lemmas.List.{take-append-drop, take_more, take-take, take_all, drop-take, drop-drop, length-take, length-take-le, length-drop}
+use Rattle.std.proofs.Common.{◌≡◌, ℕ, zero, suc, ◌+◌, ◌-◌, ◌*◌, ◌/◌, ◌^◌, ◌<◌, ◌≤◌, List, [], ◌∷◌, ◌++◌, length, get_or, take, drop, set, sum, sym, refl, ap, ◌∙◌, le_refl, add-zero, zero-mul, suc-mul, add-mul, mul-le-mul, zero-add, mul-add, arith}
+use Rattle.std.proofs.lemmas.List.{take-append-drop, take_more, take-take, take_all, drop-take, drop-drop, length-take, length-take-le, length-drop, length-reverse, get_or-reverse}
 use Rattle.std.proofs.ByRecursion.{All-from_get_or, sum_by_le}
 use Rattle.std.proofs.lemmas.List.Sums.{sum_by-cons, sum_by-append, sum_by-set, sum_by-take-le}
+use Rattle.std.specs.Simd.{first_chunks}
+use mathlib.Core.List.{reverse}
 use Rattle.dayfile.specs.Bytes.{weighed}
 use Rattle.dayfile.proofs.Numbers.{Bytes, bytes_drop, bytes_take}
 
@@ -102,19 +104,50 @@ pub record Columns (once often bs : List ℕ) (row : ℕ) : Type 0 where
   pub placed : weighed 0 once + 16 * sum often ≡ weighed 0 (drop (16 * row) (take 508 bs))
 
 -- the last row, of twelve bytes, is added to columns of zeros
-pub columns_none : (once often bs zero_once zero_often : List ℕ) → length once ≡ 16 → weighed 0 zero_once ≡ 0 → sum zero_once ≡ 0 → sum zero_often ≡ 0
-    → sum once ≡ sum zero_once + sum (take 12 (drop 496 bs))
-    → weighed 0 once ≡ weighed 0 zero_once + weighed 0 (take 12 (drop 496 bs))
-    → sum often ≡ sum zero_often + sum (take (length (take 12 (drop 496 bs))) zero_once)
+pub columns_none : (once often last bs zero_once zero_often : List ℕ) → last ≡ drop 496 (take 508 bs) → length once ≡ 16
+    → weighed 0 zero_once ≡ 0 → sum zero_once ≡ 0 → sum zero_often ≡ 0
+    → sum once ≡ sum zero_once + sum last
+    → weighed 0 once ≡ weighed 0 zero_once + weighed 0 last
+    → sum often ≡ sum zero_often + sum (take (length last) zero_once)
     → Columns once often bs 31
-columns_none once often bs zero_once zero_often wide zw zs zo s w o =
-    let last = sym (drop-take 496 12 bs) in
-    let upto = sum_by-take-le (λ x. x) zero_once (length (take 12 (drop 496 bs))) in
+columns_none once often last bs zero_once zero_often is wide zw zs zo s w o =
+    let upto = sum_by-take-le (λ x. x) zero_once (length last) in
     record {
       wide = wide;
-      whole = omega (arith, s, zs, ap sum last);
-      placed = omega (arith, w, o, upto, zw, zs, zo, ap (weighed 0) last);
+      whole = omega (arith, s, zs, ap sum is);
+      placed = omega (arith, w, o, upto, zw, zs, zo, ap (weighed 0) is);
     }
+
+-- a chunk of w bytes
+get_or_chunks : (w n i : ℕ) (bs d : List ℕ) → i < n → get_or (first_chunks w n bs) i d ≡ take w (drop (i * w) bs)
+get_or_chunks w zero i bs d h = absurd (omega arith)
+get_or_chunks w (suc n) zero bs d h = ap (λ k. take w (drop k bs)) (sym (zero-mul w))
+get_or_chunks w (suc n) (suc i) bs d h =
+    let e : w + i * w ≡ suc i * w = omega (arith, suc-mul i w) in
+    get_or_chunks w n i (drop w bs) d (omega arith) ∙ ap (take w) (drop-drop (i * w) w bs ∙ ap (λ k. drop k bs) e)
+
+-- the row that a loop from the last of the 31 whole rows back comes to after n rows
+pub row_back : (bs row : List ℕ) (rows : List (List ℕ)) (n : ℕ) → length bs ≡ 512
+    → rows ≡ first_chunks 16 (length (take 508 bs) / 16) (take 508 bs) → length rows ≡ length (take 508 bs) / 16
+    → (n < length (reverse rows)) × (row ≡ get_or (reverse rows) n row)
+    → (n < 31) × (row ≡ take 16 (drop (16 * (30 - n)) bs))
+row_back bs row rows n long is len (low, at) =
+    let t = length-take 508 bs in
+    let r = length-reverse rows in
+    let k : length (take 508 bs) / 16 ≡ 31 = omega (arith, t) in
+    let back : length rows - 1 - n ≡ 30 - n = omega (arith, len, k) in
+    let place : (30 - n) * 16 ≡ 16 * (30 - n) = omega arith in
+    let inside : 16 * (30 - n) + (508 - 16 * (30 - n)) ≡ 508 = omega arith in (
+      omega (arith, low, r, len, k),
+      at ∙ get_or-reverse rows n row (omega (arith, low, r))
+          ∙ ap (λ i. get_or rows i row) back
+          ∙ ap (λ l. get_or l (30 - n) row) (is ∙ ap (λ m. first_chunks 16 m (take 508 bs)) k)
+          ∙ get_or_chunks 16 31 (30 - n) (take 508 bs) row (omega arith)
+          ∙ ap (λ m. take 16 (drop m (take 508 bs))) place
+          ∙ ap (λ m. take 16 (drop (16 * (30 - n)) (take m bs))) (sym inside)
+          ∙ ap (take 16) (drop-take (16 * (30 - n)) (508 - 16 * (30 - n)) bs)
+          ∙ take-take 16 (508 - 16 * (30 - n)) (drop (16 * (30 - n)) bs) (omega arith),
+    )
 
 -- at the row before: row i is right in front of the rest from row j on
 module _ (once often bs row : List ℕ) (i j : ℕ) (next : j ≡ i + 1) (low : j ≤ 31) (long : 508 ≤ length bs) (is : row ≡ take 16 (drop (16 * i) bs)) (c : Columns once often bs j) where

@@ -509,10 +509,10 @@ pub fn check_of(block: &[u8; BLOCK]) -> u32
 {
     let mut once: [u32; 16] = [0; 16];
     let mut often: [u32; 16] = [0; 16];
-    add_row(&mut once, &mut often, &block[496..508]);
-    // by number, as the columns hold what is left from a row's number on
-    for row in (0..31).rev() {
-        add_row(&mut once, &mut often, &block[16 * row..16 * row + 16]);
+    let (rows, last) = block[..508].as_chunks::<16>();
+    add_row(&mut once, &mut often, last);
+    for row in rows.iter().rev() {
+        add_row(&mut once, &mut often, row);
     }
     columns_sum(&once, &often)
 }
