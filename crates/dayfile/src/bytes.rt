@@ -51,7 +51,7 @@ pub(crate) fn word_inside(bytes: &[u8], at: usize) -> u32
     requires { at + 4 ≤ length bytes.now }
     ensures { result ≡ value at 4 bytes.now }
 {
-    u32::from_le_bytes([bytes[at], bytes[at + 1], bytes[at + 2], bytes[at + 3]])
+    u32::from_le_bytes(*bytes[at..].first_chunk().unwrap())
 }
 
 /// What a block holds at a place: a number, or what stands several times in a row, as a region's loads or an owner.
