@@ -417,7 +417,7 @@ impl Entry {
         requires { sized self.now ≡ true }
         ensures { result ≡ entry_fault self.now block.now }
     {
-        // nothing is indexed: which field it is gives the byte where it starts
+        // as a chain with `find` its proof did not close: that each call may multiply and read is to be shown along the range
         for i in 0..self.count {
             let at = self.start + i * self.stride;
             if !self.limits.allow(number_at(block, at, self.width)) {
@@ -461,7 +461,7 @@ impl Entry {
         ensures { result ≡ not (is_some (entry_fault self.now block.now)) }
     {
         let mut bad = false;
-        // nothing is indexed, as in `fault`
+        // a loop, as in `fault`
         for i in 0..self.count {
             bad |= !passes(number_inside::<W>(block, self.start + i * self.stride));
         }
@@ -491,6 +491,7 @@ pub(crate) fn field_fault(table: &[Entry], block: &[u8; BLOCK]) -> Option<usize>
     requires { all_sized table.now ≡ true }
     ensures { result ≡ first_fault table.now block.now }
 {
+    // not a chain, as in `Entry::fault`: each call asks that the entry is sized
     let mut first = None;
     for entry in table {
         if !entry.holds(block) {
@@ -524,6 +525,7 @@ fn add_row(once: &mut [u32; 16], often: &mut [u32; 16], row: &[u8])
     ensures weighed { weighed 0 once.new ≡ weighed 0 once.old + weighed 0 row.now }
     ensures often { sum often.new ≡ sum often.old + sum (take (length row.now) once.old) }
 {
+    // With iter_mut in a zip, a proof knows nothing of the columns after the loop: so they are named by their places.
     for (k, byte) in row.iter().enumerate() {
         often[k] += once[k];
         once[k] += u32::from(*byte);
