@@ -4,7 +4,7 @@ use crate::money::Millicents;
 use crate::pools::pool_of;
 use crate::share_notes::{note_hours, note_owners};
 use credits::Market;
-use dayfile::{AdmittedDay, ResourceRecord};
+use dayfile::{AdmittedDay, HOURS, ResourceRecord};
 use division::Portion;
 use small_day::{DayAheadHour, Stop, day_ahead_hours};
 use std::io;
@@ -93,7 +93,7 @@ fn is_scheduled(hour: &DayAheadHour) -> bool {
 }
 
 /// The pools of the hours that share the credit, with their kWh; an hour that does not share weighs nothing.
-fn hours_of(resource: &ResourceRecord) -> [Portion<usize>; 24] {
+fn hours_of(resource: &ResourceRecord) -> [Portion<usize>; HOURS] {
     day_ahead_hours(resource).map(|hour| {
         if is_scheduled(&hour) {
             let pool = pool_of(Market::DayAhead, hour.flag, resource.region);

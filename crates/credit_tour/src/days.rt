@@ -1,6 +1,6 @@
 //! Further days for the examples: one with both Resources, and two that are accepted as files and refused for their credits.
 use crate::restart;
-use dayfile::{DayRecord, Event, Flag, Record};
+use dayfile::{DayRecord, Event, Flag, HOURS, Record};
 use small_day::{participants, resource};
 
 /// A day's own record, of three participants.
@@ -46,10 +46,10 @@ pub fn wrong_event() -> [Record; 6] {
 pub fn wrong_cost() -> [Record; 5] {
     let [first, second, third] = participants();
     let mut resource = resource();
-    resource.cleared_kwh = [2_000_000; 24];
-    resource.prices = [200_000; 24];
-    resource.lmps = [-200_000; 24];
-    resource.flags = [Flag::Economic; 24];
+    resource.cleared_kwh = [2_000_000; HOURS];
+    resource.prices = [200_000; HOURS];
+    resource.lmps = [-200_000; HOURS];
+    resource.flags = [Flag::Economic; HOURS];
     [
         header(20_000, 1),
         first,

@@ -5,7 +5,7 @@ use crate::money::Millicents;
 use crate::pools::pool_of;
 use crate::share_notes::{note_hours, note_owners};
 use credits::Market;
-use dayfile::{AdmittedDay, RealTimeHour, RealTimeRecord, ResourceRecord};
+use dayfile::{AdmittedDay, HOURS, RealTimeHour, RealTimeRecord, ResourceRecord};
 use division::Portion;
 use explanation::EventName;
 use small_day::Stop;
@@ -14,7 +14,7 @@ use std::{array, io};
 /// What the events of a day come to: the hours that end in a pool period, and the fees of the periods.
 #[derive(Clone, Copy, Debug)]
 struct Walk {
-    eligible: [bool; 24],
+    eligible: [bool; HOURS],
     fees: Millicents,
 }
 
@@ -52,7 +52,7 @@ fn note_events(
         "12. Each hour's event moves the commitment. The Resource is down at midnight; its Minimum Run Time is {minimum} hours."
     )?;
     let opening = Millicents::of_cents(resource.start_up_cents);
-    let mut eligible = [false; 24];
+    let mut eligible = [false; HOURS];
     let mut fees = Millicents::default();
     let mut commitment = Commitment::Down;
     for (hour, (event, eligible)) in (1u8..).zip(real_time.events.iter().zip(&mut eligible)) {
@@ -131,7 +131,7 @@ fn hours_of(
     resource: &ResourceRecord,
     real_time: &RealTimeRecord,
     walk: &Walk,
-) -> [Portion<usize>; 24] {
+) -> [Portion<usize>; HOURS] {
     array::from_fn(|hour| {
         if walk.eligible[hour] {
             let pool = pool_of(Market::RealTime, real_time.flags[hour], resource.region);

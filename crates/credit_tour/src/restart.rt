@@ -1,6 +1,8 @@
 //! The records of a day with a trip and a restart: the small day's participants, and a Resource with a real-time record.
 use crate::days::header;
-use dayfile::{BLOCK, Event, Flag, Owner, RealTimeHour, RealTimeRecord, Record, ResourceRecord};
+use dayfile::{
+    BLOCK, Event, Flag, HOURS, OWNERS, Owner, RealTimeHour, RealTimeRecord, Record, ResourceRecord,
+};
 use small_day::participants;
 
 /// How many records the day has.
@@ -23,7 +25,7 @@ pub fn restart_day() -> [Record; RESTART_RECORDS] {
 
 /// A Resource that cleared nothing day-ahead, and belongs to all three participants.
 pub fn resource() -> ResourceRecord {
-    let mut owners = [Owner::default(); 8];
+    let mut owners = [Owner::default(); OWNERS];
     owners[0] = owner(0, 333_334);
     owners[1] = owner(1, 333_333);
     owners[2] = owner(2, 333_333);
@@ -34,14 +36,14 @@ pub fn resource() -> ResourceRecord {
         number: 8,
         start_up_cents: 10_000,
         no_load_cents: 500,
-        prices: [5_000; 24],
+        prices: [5_000; HOURS],
         hours_on_line: 0,
         owner_count: 3,
         self_scheduled: 0,
         owners,
-        cleared_kwh: [0; 24],
-        lmps: [0; 24],
-        flags: [Flag::Economic; 24],
+        cleared_kwh: [0; HOURS],
+        lmps: [0; HOURS],
+        flags: [Flag::Economic; HOURS],
     }
 }
 
@@ -51,14 +53,14 @@ fn owner(place: u16, parts: u32) -> Owner {
 
 /// It runs in hours 6 to 8, trips in hour 9, and is restarted for hours 11 to 13, in which it protects its region.
 pub fn real_time() -> RealTimeRecord {
-    let mut hours = [RealTimeHour::default(); 24];
+    let mut hours = [RealTimeHour::default(); HOURS];
     hours[5] = hour(30_000, 28_000, 4_200);
     hours[6] = hour(40_000, 41_000, 4_300);
     hours[7] = hour(40_000, 40_000, 5_600);
     hours[10] = hour(25_000, 22_000, 4_000);
     hours[11] = hour(30_000, 30_000, 3_900);
     hours[12] = hour(10_000, 21_000, 3_700);
-    let mut flags = [Flag::Economic; 24];
+    let mut flags = [Flag::Economic; HOURS];
     flags[10] = Flag::Lscpr;
     flags[11] = Flag::Lscpr;
     flags[12] = Flag::Lscpr;
@@ -79,8 +81,8 @@ fn hour(dispatch_kwh: u32, metered_kwh: u32, lmp: i32) -> RealTimeHour {
     }
 }
 
-fn events() -> [Event; 24] {
-    let mut events = [Event::Off; 24];
+fn events() -> [Event; HOURS] {
+    let mut events = [Event::Off; HOURS];
     events[5] = Event::PoolRun;
     events[6] = Event::PoolRun;
     events[7] = Event::PoolRun;

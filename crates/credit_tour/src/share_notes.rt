@@ -1,6 +1,6 @@
 //! How a credit's cents go to hours, pools and owners, beside what the engine answers.
 use credits::{Credits, Grid, PLACES, POOLS, PoolAmounts, credit, hourly_allocation};
-use dayfile::{AdmittedDay, ResourceRecord};
+use dayfile::{AdmittedDay, HOURS, ResourceRecord};
 use division::{Portion, divide};
 use explanation::PoolName;
 use small_day::Stop;
@@ -12,7 +12,7 @@ pub fn note_hours(
     day: &AdmittedDay<'_>,
     number: u32,
     cents: u64,
-    hours: &mut [Portion<usize>; 24],
+    hours: &mut [Portion<usize>; HOURS],
 ) -> Result<(), Stop> {
     let _ = divide(cents, hours);
     let mut grid = Grid::empty();
@@ -25,7 +25,7 @@ pub fn note_hours(
 }
 
 /// The kWh of all hours that share.
-fn kwh_of(hours: &[Portion<usize>; 24]) -> u64 {
+fn kwh_of(hours: &[Portion<usize>; HOURS]) -> u64 {
     hours.iter().fold(
         0,
         |kwh: u64, hour| kwh.saturating_add(u64::from(hour.weight)),
@@ -60,7 +60,7 @@ pub fn note_owners(
     rt: &HostRuntime,
     day: &AdmittedDay<'_>,
     resource: &ResourceRecord,
-    hours: &[Portion<usize>; 24],
+    hours: &[Portion<usize>; HOURS],
 ) -> Result<(), Stop> {
     let mut booked = [PoolAmounts::none(); PLACES];
     for (hour, part) in (1u8..).zip(hours) {
