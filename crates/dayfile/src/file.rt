@@ -53,8 +53,8 @@ fn judge_blocks(file: &[u8]) -> Result<Before, Fault>
 {
     let mut before = Before::nothing();
     for (k, block) in file.as_chunks::<BLOCK>().0.iter().enumerate() {
-        let kind = before.judge(block, k)?;
-        before.note(kind, block);
+        before.judge(block, k)?;
+        before.note(block);
     }
     Ok(before)
 }

@@ -1,9 +1,7 @@
 //! The rules for a block: its check, its place among the others, its fields, its number and its owners.
-ghost use Rattle.std.specs.Prelude.{◌≡◌, ◌^◌, ◌<◌, Some, None, MatchResult, option_map, slice_index};
-ghost use Rattle.dayfile.specs.Bytes.{value};
-ghost use Rattle.dayfile.specs.Layout.{first_fault, table_for, earlier};
+ghost use Rattle.std.specs.Prelude.{◌≡◌, ◌^◌, ◌<◌, true, option_map, slice_index};
 ghost use Rattle.dayfile.specs.Kinds.{letter, told};
-ghost use Rattle.dayfile.specs.Files.{nothing, after, checked, in_order, untied, rising, above, owned, block_fault, lone_fault, answer, known};
+ghost use Rattle.dayfile.specs.Files.{nothing, after, checked, known, in_order, untied, rising, above, owned, block_fault, lone_fault, answer};
 
 use crate::before::Before;
 use crate::bytes::{read_parts, word_at};
@@ -40,20 +38,17 @@ fn is_above(last: Option<u32>, number: u32) -> bool
     last.is_none_or(|last| last < number)
 }
 
-// A kind goes beside its block from here on: a struct of both would borrow and have a ghost field, and no `Result` holds such.
-
 /// Whether a Resource's owners keep their rules, places lying below a limit.
-fn is_owned(kind: Kind, block: &[u8; BLOCK], limit: usize) -> bool
-    requires { letter kind ≡ slice_index block.now 0 }
+fn is_owned(block: &[u8; BLOCK], limit: usize) -> bool
     ensures { result ≡ owned limit block.now }
 {
-    match kind {
-        Kind::Resource => kept(
+    match Kind::of(block[0]) {
+        Some(Kind::Resource) => kept(
             &read_parts::<Owner, OWNERS>(&block[120..168]),
             usize::from(block[113]),
             limit,
         ),
-        Kind::Day | Kind::Participant | Kind::RealTime => true,
+        _ => true,
     }
 }
 
@@ -70,7 +65,7 @@ pub(crate) fn judge_alone(block: &[u8; BLOCK]) -> Result<(), Fault>
     if let Some(byte) = field_fault(table_for(kind), block) {
         return Err(Fault::Field { block: 0, byte });
     }
-    if is_owned(kind, block, PLACES) {
+    if is_owned(block, PLACES) {
         Ok(())
     } else {
         Err(Fault::Owners { block: 0 })
@@ -92,9 +87,9 @@ impl Before {
         }
     }
 
-    /// The kind of block `k`, or its first fault.
-    pub(crate) fn judge(&self, block: &[u8; BLOCK], k: usize) -> Result<Kind, Fault>
-        ensures { MatchResult result (λ kind. (block_fault (told self.now) k block.now ≡ None) × (letter kind ≡ slice_index block.now 0)) (λ fault. block_fault (told self.now) k block.now ≡ Some fault) }
+    /// The first fault of block `k`.
+    pub(crate) fn judge(&self, block: &[u8; BLOCK], k: usize) -> Result<(), Fault>
+        ensures { result ≡ answer (block_fault (told self.now) k block.now) }
     {
         if !is_checked(block) {
             return Err(Fault::Check { block: k });
@@ -103,61 +98,57 @@ impl Before {
             Some(kind) if may_follow(self.kind, kind) => kind,
             _ => return Err(Fault::Order { block: k }),
         };
-        if let Some(byte) = self.faulty_field(kind, block) {
+        let field = field_fault(table_for(kind), block);
+        if let Some(byte) = earlier_of(field, self.untied(block)) {
             return Err(Fault::Field { block: k, byte });
         }
-        if !self.is_rising(kind, block) {
+        if !self.is_rising(block) {
             return Err(Fault::Rising { block: k });
         }
-        if is_owned(kind, block, self.participants) {
-            Ok(kind)
+        if is_owned(block, self.participants) {
+            Ok(())
         } else {
             Err(Fault::Owners { block: k })
         }
     }
 
-    /// Where the first faulty field starts: an R block also has to bear the number of the block before it.
-    fn faulty_field(&self, kind: Kind, block: &[u8; BLOCK]) -> Option<usize>
-        requires { letter kind ≡ slice_index block.now 0 }
-        ensures { result ≡ earlier (first_fault (table_for (slice_index block.now 0)) block.now) (untied (told self.now) block.now) }
+    /// The place of the number of an R block that is not that of the block before it.
+    fn untied(&self, block: &[u8; BLOCK]) -> Option<usize>
+        ensures { result ≡ untied (told self.now) block.now }
     {
-        let fault = field_fault(table_for(kind), block);
-        if kind == Kind::RealTime && word_at(block, 4) != self.number {
-            return earlier_of(fault, Some(4));
-        }
-        fault
+        let real_time = Kind::of(block[0]) == Some(Kind::RealTime);
+        (real_time && word_at(block, 4) != self.number).then_some(4)
     }
 
     /// Whether a participant or Resource is above the last one.
-    fn is_rising(&self, kind: Kind, block: &[u8; BLOCK]) -> bool
-        requires { letter kind ≡ slice_index block.now 0 }
+    fn is_rising(&self, block: &[u8; BLOCK]) -> bool
         ensures { result ≡ rising (told self.now) block.now }
     {
-        match kind {
-            Kind::Participant => is_above(self.participant, word_at(block, 4)),
-            Kind::Resource => is_above(self.resource, word_at(block, 4)),
-            Kind::Day | Kind::RealTime => true,
+        match Kind::of(block[0]) {
+            Some(Kind::Participant) => is_above(self.participant, word_at(block, 4)),
+            Some(Kind::Resource) => is_above(self.resource, word_at(block, 4)),
+            _ => true,
         }
     }
 
     /// Takes note of a block.
-    pub(crate) fn note(&mut self, kind: Kind, block: &[u8; BLOCK])
-        requires { (letter kind ≡ slice_index block.now 0) × ((self.old.participants < 2 ^ 60) × (self.old.resources < 2 ^ 60)) }
+    pub(crate) fn note(&mut self, block: &[u8; BLOCK])
+        requires { (known (slice_index block.now 0) ≡ true) × ((self.old.participants < 2 ^ 60) × (self.old.resources < 2 ^ 60)) }
         ensures { told self.new ≡ after (told self.old) block.now }
     {
         let number = word_at(block, 4);
-        self.kind = Some(kind);
+        self.kind = Kind::of(block[0]);
         self.number = number;
-        match kind {
-            Kind::Participant => {
+        match self.kind {
+            Some(Kind::Participant) => {
                 self.participants += 1;
                 self.participant = Some(number);
             }
-            Kind::Resource => {
+            Some(Kind::Resource) => {
                 self.resources += 1;
                 self.resource = Some(number);
             }
-            Kind::Day | Kind::RealTime => {}
+            _ => {}
         }
     }
 }

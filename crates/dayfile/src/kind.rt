@@ -20,6 +20,7 @@ pub enum Kind {
 }
 
 impl Kind {
+    // no `TryFrom`: an unknown letter is refused by the place of its block, which only the caller knows
     /// The kind that a byte is the letter of.
     pub fn of(byte: u8) -> Option<Kind>
         ensures { MatchOption result (known byte ≡ false) (λ kind. letter kind ≡ byte) }
