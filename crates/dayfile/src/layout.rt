@@ -542,9 +542,9 @@ fn columns_sum(once: &[u32; 16], often: &[u32; 16]) -> u32
     requires { weighed 0 once.now + 16 * sum often.now < 2 ^ 32 }
     ensures { result ≡ weighed 0 once.now + 16 * sum often.now }
 {
-    let mut total = 16 * often.iter().sum::<u32>();
+    let mut total: u32 = 0;
     for (k, column) in once.iter().enumerate() {
-        total += (k as u32 + 1) * *column;
+        total += (k as u32 + 1) * *column + 16 * often[k];
     }
     total
 }
