@@ -1,9 +1,9 @@
 -- The first faulty field of a table: the least place of a faulty field, and none where no field is faulty.
-use Rattle.std.proofs.Common.{◌≡◌, ℕ, zero, suc, ◌+◌, ◌-◌, ◌*◌, ◌<◌, ◌≤◌, min, Bool, true, false, cond, not, ◌&&◌, ◌||◌, eqb, ltb, leb, ◌⊎◌, List, [], ◌∷◌, ◌++◌, length, get_or, take, drop, is_some, Some, None, Decides, Option, sym, refl, ap, ◌∙◌, subst, inl, inr, suc-mul, zero-mul, arith}
+use Rattle.std.proofs.Common.{◌≡◌, ℕ, zero, suc, ◌+◌, ◌-◌, ◌*◌, ◌<◌, ◌≤◌, min, Bool, true, false, cond, not, ◌&&◌, ◌||◌, eqb, ltb, leb, ◌⊎◌, List, [], ◌∷◌, ◌++◌, length, get_or, take, drop, is_some, Some, None, Decides, Option, fold, sym, refl, ap, ◌∙◌, subst, inl, inr, suc-mul, zero-mul, arith}
 use lib.Bits.{bit_or, or_add_and, and_le_l, and_le_r}
 use Rattle.std.specs.List.{AllByRecursion}
 use Rattle.std.proofs.lemmas.List.{drop_more, drop_all, take_at, take_all, take-take, get_or-take, get_or-drop, length-take-le, length-drop}
-use Rattle.std.proofs.ByRecursion.{All-get_or, All-from_get_or, All-take, All-more}
+use Rattle.std.proofs.ByRecursion.{All-get_or, All-from_get_or}
 use Rattle.std.proofs.lemmas.Bool.Decides.{nat_tests}
 use Rattle.std.proofs.lemmas.Bool.{cond-true, cond-false, cases_lt, and_parts, or_cases, eqb-true, eq-eqb, leb-true, both_ways}
 use Rattle.dayfile.specs.declared.layout.Entry.{Entry}
@@ -299,16 +299,14 @@ or_zero a b h =
     let r = and_le_r a b in
     (omega (arith, s, r), omega (arith, s, l))
 
-pub zeros_more : (bs : List ℕ) (i any : ℕ) → i < length bs → (any ≡ 0 → AllByRecursion (λ b. b ≡ 0) (take i bs)) × (AllByRecursion (λ b. b ≡ 0) (take i bs) → any ≡ 0)
-    → (bit_or any (get_or bs i 0) ≡ 0 → AllByRecursion (λ b. b ≡ 0) (take (i + 1) bs)) × (AllByRecursion (λ b. b ≡ 0) (take (i + 1) bs) → bit_or any (get_or bs i 0) ≡ 0)
-zeros_more bs i any l (to, from) =
-    let n = length-take-le (i + 1) bs (omega arith) in (
-      (λ h. let p = or_zero any (get_or bs i 0) h in All-more (λ b. b ≡ 0) bs i 0 l (to p.0) p.1),
-      (λ h.
-          let here : get_or bs i 0 ≡ 0 = sym (get_or-take (i + 1) bs i 0 (omega arith)) ∙ All-get_or (λ b. b ≡ 0) (take (i + 1) bs) i 0 (omega (arith, n)) h in
-          let before : AllByRecursion (λ b. b ≡ 0) (take i bs) = subst (AllByRecursion (λ b. b ≡ 0)) (take-take i (i + 1) bs (omega arith)) (All-take (λ b. b ≡ 0) i (take (i + 1) bs) h) in
-          ap (λ a. bit_or a (get_or bs i 0)) (from before) ∙ here),
-    )
+-- the bitwise or of bytes is 0 where all are
+pub or_all : (bs : List ℕ) (a : ℕ) → fold bit_or a bs ≡ 0 → (a ≡ 0) × AllByRecursion (λ b. b ≡ 0) bs
+or_all [] a h = (h, tt)
+or_all (b ∷ bs) a h = let (p, q) = or_all bs (bit_or a b) h in let (x, y) = or_zero a b p in (x, (y, q))
+
+pub all_or : (bs : List ℕ) → AllByRecursion (λ b. b ≡ 0) bs → fold bit_or 0 bs ≡ 0
+all_or [] h = refl
+all_or (b ∷ bs) h = ap (λ a. fold bit_or a bs) (ap (bit_or 0) h.0) ∙ all_or bs h.1
 
 -- unnamed bytes hold what they may where all are 0
 pub unnamed_holds : (e : Entry) (b : List ℕ) (n : ℕ) (r : Bool) → e.limits ≡ Unnamed → e.stride ≡ 1 → sized e ≡ true → n ≡ e.count → e.start + n ≤ length b

@@ -473,12 +473,7 @@ impl Entry {
 fn all_zero(bytes: &[u8]) -> bool
     ensures { Decides result (AllByRecursion (λ b. b ≡ 0) bytes.now) }
 {
-    // a loop: with a fold over the bytes, admitting a day takes 47 µs in place of 25
-    let mut any = 0;
-    for b in bytes {
-        any |= *b;
-    }
-    any == 0
+    bytes.iter().fold(0, |any, b| any | *b) == 0
 }
 
 /// The earlier of two places.

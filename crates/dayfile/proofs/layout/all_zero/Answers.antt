@@ -1,16 +1,15 @@
-use Rattle.std.proofs.Common.{◌≡◌, sym, subst}
-use Rattle.std.specs.List.{AllByRecursion}
-use Rattle.std.proofs.lemmas.List.{take_all}
+use Rattle.std.proofs.Common.{◌≡◌, fold, sym, ◌∙◌, rules}
 use Rattle.std.proofs.lemmas.Bool.{eqb-true, eq-eqb}
-use Rattle.dayfile.proofs.Tables.{zeros_more}
+use Rattle.std.proofs.lemmas.Iterator.{YieldsList-from_slice}
+use Rattle.std.proofs.lemmas.Iterator.Consumers.{fold_from_yields_List}
+use lib.Bits.{bit_or}
+use Rattle.dayfile.proofs.Tables.{or_all, all_or}
 use Rattle.dayfile.proofs.layout.all_zero.Goals as goal
-
-pub loop-b-preserved : goal.loop-b-preserved
-loop-b-preserved c = zeros_more c.args.bytes.now c.loop-b.b-index c.loop-b.any c.loop-b-test.true c.loop-b.invariant
 
 pub returns : goal.returns
 returns c =
-    let all = take_all c.loop-b.b-index c.args.bytes.now c.loop-b-test.false in (
-      (λ h. subst (AllByRecursion (λ b. b ≡ 0)) all (c.loop-b.invariant.0 (eqb-true c.loop-b.any 0 h))),
-      (λ h. eq-eqb c.loop-b.any 0 (c.loop-b.invariant.1 (subst (AllByRecursion (λ b. b ≡ 0)) (sym all) h))),
+    let e : c.fold.result ≡ fold bit_or 0 c.args.bytes.now
+    = fold_from_yields_List _ bit_or _ _ c.fold.ensures.ran (YieldsList-from_slice c.args.bytes.now (cc)) (λ a x b q k. search rules) in (
+      (λ h. (or_all c.args.bytes.now 0 (sym e ∙ eqb-true c.fold.result 0 h)).1),
+      (λ h. eq-eqb c.fold.result 0 (e ∙ all_or c.args.bytes.now h)),
     )
