@@ -537,6 +537,7 @@ fn columns_sum(once: &[u32; 16], often: &[u32; 16]) -> u32
     requires { weighed 0 once.now + 16 * sum often.now < 2 ^ 32 }
     ensures { result ≡ weighed 0 once.now + 16 * sum often.now }
 {
+    // both at once: with a chain's sum of `often` by itself, admitting a day takes 47 µs in place of 25
     let mut total: u32 = 0;
     for (k, column) in once.iter().enumerate() {
         total += (k as u32 + 1) * *column + 16 * often[k];
