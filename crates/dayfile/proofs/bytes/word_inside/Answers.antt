@@ -1,4 +1,4 @@
-use Rattle.std.proofs.Common.{◌≡◌, length, take, drop, ap, ◌∙◌, arith, rules}
+use Rattle.std.proofs.Common.{◌≡◌, length, take, drop, ap, arith, rules}
 use Rattle.dayfile.specs.Bytes.{number}
 use Rattle.dayfile.proofs.Numbers.{number_four}
 use Rattle.dayfile.proofs.bytes.word_inside.Goals as goal

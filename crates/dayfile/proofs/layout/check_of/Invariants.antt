@@ -1,4 +1,4 @@
-use Rattle.std.proofs.Common.{◌≤◌, ◌-◌, length}
+use Rattle.std.proofs.Common.{◌-◌, length}
 use Rattle.dayfile.proofs.Columns.{Columns}
 use Rattle.dayfile.proofs.layout.check_of.Given as goal
 
