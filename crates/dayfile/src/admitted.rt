@@ -54,7 +54,8 @@ impl<'f> AdmittedDay<'f> {
     pub fn record(&self, k: usize) -> Option<Record>
         ensures { result ≡ record_at self.now.file.now k }
     {
-        self.block(k).map(|block| block.record())
+        let block = self.block(k)?;
+        Some(block.record())
     }
 }
 

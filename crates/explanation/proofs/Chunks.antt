@@ -1,5 +1,5 @@
--- The chunks of a file are its blocks: the one at a place, how many of them begin with a letter, and the last that does.
-use Rattle.std.proofs.Common.{◌≡◌, ℕ, zero, suc, ◌+◌, ◌-◌, ◌*◌, ◌/◌, ◌<◌, ◌≤◌, min, Bool, true, false, cond, eqb, List, [], ◌∷◌, ◌++◌, length, get_or, take, drop, filter, Some, None, Option, unwrap_or, IfSome, MatchOption, Bor, sym, refl, ap, ◌∙◌, subst, inl, inr, add-one, lit<, arith}
+-- The chunks of a file are its blocks: how many of them begin with a letter, and the last that does.
+use Rattle.std.proofs.Common.{◌≡◌, ℕ, zero, suc, ◌+◌, ◌-◌, ◌*◌, ◌/◌, ◌<◌, ◌≤◌, min, Bool, true, false, cond, eqb, List, [], ◌∷◌, ◌++◌, length, get_or, take, drop, filter, Some, None, Option, IfSome, MatchOption, Bor, sym, refl, ap, ◌∙◌, subst, inl, inr, add-one, lit<, arith}
 use Rattle.std.specs.List.{IsSubsliceAt, last_or}
 use Rattle.std.specs.Option.{option_map}
 use Rattle.std.specs.Iterator.Runs.{Run, IsChunksRun}
@@ -13,24 +13,12 @@ use Rattle.dayfile.specs.declared.kind.Kind.TheVariants.{Day, Participant, Resou
 use Rattle.dayfile.specs.Bytes.{value}
 use Rattle.dayfile.specs.Files.{block, kind, number_in, tally, latest}
 use Rattle.dayfile.specs.Kinds.{letter}
-use Rattle.explanation.proofs.Standing.{block_past, tally_past, latest_past}
+use Rattle.explanation.proofs.Standing.{tally_past, latest_past}
 
 -- a run over the chunks of a file
 pub chunks_of : {S : Type 0} {steps : S → Option (Bor (List ℕ)) → S → Type 0} (p : Run steps) (size : ℕ) (rest f : List ℕ)
     → size ≡ 512 → rest ≡ f → IsChunksRun p size rest → IsChunksRun p 512 f
 chunks_of p size rest f s u runs = subst (IsChunksRun p 512) u (subst (λ m. IsChunksRun p m rest) s runs)
-
--- the chunk at a place among those that a run gave is the block
-pub chunk_is : {S : Type 0} {steps : S → Option (Bor (List ℕ)) → S → Type 0} (p : Run steps) (f : List ℕ) (k : ℕ) (o : Option (Bor (List ℕ))) (r none : Bor (List ℕ))
-    → IsChunksRun p 512 f → MatchOption o ((p.whole ≡ true) × (p.len ≤ k)) (λ x. (p.len ≡ k + 1) × (p.at k ≡ Some x))
-    → none.now ≡ [] → r ≡ unwrap_or o none → r.now ≡ block f k
-chunk_is p f k None r none runs m e u =
-    let n : p.len ≡ min (length f) ((length f + 512 - 1) / 512) = runs.1 m.0 in
-    ap (λ b. b.now) u ∙ e ∙ sym (block_past f k (omega (arith, n, m.1)))
-chunk_is p f k (Some x) r none runs m e u =
-    let there = subst (λ o. IfSome o (λ x. (0 < length x.now) × (k * 512 < length f) × IsSubsliceAt 512 f (k * 512) x.now)) m.1 (runs.2 k) in
-    let d : k * 512 ≡ 512 * k = omega arith in
-    ap (λ b. b.now) u ∙ there.2.0 ∙ ap (λ j. take 512 (drop j f)) d
 
 -- the last item that a whole run gave
 last_push : {A : Type 0} (o : Option A) (xs : List A) (x : A) → last_or o (xs ++ x ∷ []) ≡ Some x

@@ -10,7 +10,13 @@ use dayfile::{BLOCK, Kind, byte_at, word_at};
 pub(crate) fn block_at(file: &[u8], k: usize) -> &[u8]
     ensures { result.now ≡ block file.now k }
 {
-    file.chunks(BLOCK).nth(k).unwrap_or(&[])
+    // by its place: `nth` of the file's chunks would go through all blocks before it
+    let (whole, rest) = file.as_chunks::<BLOCK>();
+    match whole.get(k) {
+        Some(block) => block,
+        None if k == whole.len() => rest,
+        None => &[],
+    }
 }
 
 /// The letter of block `k`.

@@ -1,5 +1,7 @@
 //! Why a tour stops before its end.
 ghost use Rattle.std.specs.Prelude.{◌≡◌};
+ghost use Rattle.std.specs.IoError.{error_kind};
+ghost use Rattle.std.specs.declared.io.ErrorKind.TheVariants.{OutOfMemory};
 ghost use Rattle.small_day.specs.declared.stop.Stop.TheVariants.{Refused, Io};
 
 use dayfile::Fault;
@@ -33,7 +35,7 @@ impl From<io::Error> for Stop {
 }
 
 impl From<AllocError> for Stop {
-    ghost from_gives = { λ _ stop. (error : _) × (stop ≡ Io error) };
+    ghost from_gives = { λ _ stop. (error : _) × (error_kind error ≡ OutOfMemory) × (stop ≡ Io error) };
 
     fn from(error: AllocError) -> Stop {
         Stop::Io(io::Error::from(error))

@@ -1,11 +1,18 @@
-use Rattle.std.proofs.Common.{refl, ap, ◌∙◌, arith}
-use Rattle.explanation.proofs.Chunks.{chunks_of, chunk_is}
+use Rattle.std.proofs.Common.{◌≡◌, [], ◌*◌, ◌/◌, ◌≤◌, length, drop, sym, ap, ◌∙◌, arith}
+use Rattle.std.proofs.lemmas.List.{take_all}
+use Rattle.dayfile.proofs.Chunks.{block_chunk}
 use Rattle.explanation.proofs.blocks.block_at.Goals as goal
 
-pub returns : goal.returns
-returns c =
-    let n = c.nth.ensures.runs in
-    let s = ap (λ x. x.size) n.1 ∙ c.chunks.ensures.size in
-    let u = ap (λ x. x.rest.now) n.1 ∙ c.chunks.ensures.rest in
-    let w = chunks_of n.0 n.0.from.size n.0.from.rest.now c.args.file.now s u (c.chunks.ensures.runs n.0 n.0.seen (omega (arith, s))) in
-    chunk_is n.0 c.args.file.now c.args.k c.nth.result c.unwrap_or.result _ w n.2 refl c.unwrap_or.ensures
+pub returns-in-Some : goal.returns-in-Some
+returns-in-Some c =
+    let l = c.in-Some.ensures.lookup in
+    let h = l.3.0 in
+    l.4 (omega arith) [] ∙ block_chunk c.args.file.now c.as_chunks.result.0.now c.args.k c.as_chunks.ensures.front (omega (arith, h, c.as_chunks.ensures.front_len))
+
+pub returns-in-None : goal.returns-in-None
+returns-in-None c =
+    let e = c.as_chunks.ensures in
+    let d : length c.args.file.now / 512 * 512 ≡ 512 * c.args.k = omega (arith, c.if-k-whole.true, e.front_len) in
+    let rest = e.back ∙ ap (λ j. drop j c.args.file.now) d in
+    let short : length (drop (512 * c.args.k) c.args.file.now) ≤ 512 = omega (arith, ap length rest, e.back_len) in
+    rest ∙ sym (take_all 512 (drop (512 * c.args.k) c.args.file.now) short)
