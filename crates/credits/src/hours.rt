@@ -8,6 +8,7 @@ use crate::claim::Claim;
 use crate::hourly::HourCents;
 use crate::share::HourShare;
 use division::{HEAVIEST, Weighted, divide};
+use std::array;
 
 // No Portion of division: an hour that does not share is None, and one that shares may have 0 kWh.
 impl Weighted for HourShare {
@@ -72,7 +73,8 @@ impl Claim {
         // something weighs where an hour shares, so that nothing is left undivided
         let _ = divide(cents, &mut hours);
         HourCents {
-            cents: hours.map(|hour| hour.cents),
+            // `map` would move all hours twice
+            cents: array::from_fn(|hour| hours[hour].cents),
         }
     }
 }
